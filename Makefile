@@ -1,0 +1,59 @@
+# What make builds goes into build/, since rt ci removes target/.
+KIT = rattle-kit-5b logic 064da1ca440f63e7
+RUST_SRC = ../shared/docs/src
+
+MAKEFLAGS += --no-print-directory
+CARGO = cd build/oracle && cargo build -q --release --offline --target-dir target
+
+.PHONY: all test vectors oracle bench clean help workspace x86_64 FORCE
+
+all: build/libborder.a
+
+help:
+	@echo 'make          build/libborder.a, the library for C and Rust on x86-64'
+	@echo 'make test     the gate: the form of the statements, the layout, every proof'
+	@echo 'make vectors  prove and run the program of published vectors'
+	@echo 'make oracle   build the Rust, unchanged, behind the line protocol, and try it (RUST_SRC=DIR)'
+	@echo 'make bench    time the library against the Rust (x86-64 only)'
+	@echo 'make clean    remove build/ and target/'
+
+# Nothing may come after rt ci: its last line is the last of the run.
+test:
+	@kit="$$(rt version)"; [ "$$kit" = "$(KIT)" ] || echo "warning: this is '$$kit'; '$(KIT)' was used" >&2
+	tools/statements_test
+	tools/statements
+	rt fmt --check
+	rt ci
+
+build/libborder.a: FORCE
+	rt staticlib border
+	@mkdir -p build
+	@cmp -s target/staticlib/libborder.a $@ || cp target/staticlib/libborder.a $@
+
+vectors:
+	rt check vectors
+	@mkdir -p build
+	cp target/bin/vectors build/vectors
+	tools/run_program vectors
+
+oracle: build/noustrel-oracle
+	oracle/check build/noustrel-oracle
+
+build/noustrel-oracle: workspace
+	$(CARGO) -p noustrel-oracle
+	cp build/oracle/target/release/noustrel-oracle $@
+
+bench: x86_64 build/libborder.a workspace
+	$(CARGO) -p noustrel-bench
+	build/oracle/target/release/noustrel-bench
+
+workspace:
+	oracle/prepare $(RUST_SRC) build
+
+x86_64:
+	@[ "$$(uname -m)" = x86_64 ] || { echo "make bench: the library is code for x86-64, this machine is $$(uname -m)" >&2; exit 1; }
+
+clean:
+	rm -rf build target
+
+FORCE:

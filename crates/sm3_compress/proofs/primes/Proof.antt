@@ -1,0 +1,67 @@
+-- `sm3_compress::primes` meets its contract. The loop's invariant: the first j words are W'_0 to W'_(j-1); the measure is
+-- what is left of 64. Assumes nothing.
+use borrow.Author.Needs.{needs}
+use mathlib.Core.Path.{_≡_, refl, sym, _∙_}
+use Prim.Native.Nat.{_-_, _≤_}
+use native.Mathlib.Omega.{arith}
+use lib.ListN.{length, take}
+use Rattle.words.specs.Lists.{table}
+use Rattle.words.specs.Word.{_⊕_}
+use Rattle.words.proofs.Lists.{table-more, take-whole}
+use Rattle.sm3_compress.specs.Standard.{primeAt, W′}
+use Rattle.sm3_compress.proofs.primes.Statement.{statement}
+use Rattle.sm3_compress.proofs.primes.Tie as tie
+
+abbrev Inv-loop : tie.InvT-loop
+Inv-loop w wp₀ j₀ wp j = (length wp ≡ 64) × (j ≤ 64) × (take j wp ≡ table (primeAt w) j)
+
+abbrev μ-loop : tie.MeasureT-loop
+μ-loop w wp₀ j₀ wp j = 64 - j
+
+loop-holds : tie.Need-loop-holds Inv-loop μ-loop
+unfolding table
+loop-holds c = (refl, search needs, refl)
+
+mul-wp : tie.Need-mul-wp Inv-loop μ-loop
+mul-wp c = search needs
+
+element-copy-out-wp : tie.Need-element-copy-out-wp Inv-loop μ-loop
+element-copy-out-wp c = search needs
+
+add-wp : tie.Need-add-wp Inv-loop μ-loop
+add-wp c = search needs
+
+mul-wp-2 : tie.Need-mul-wp-2 Inv-loop μ-loop
+mul-wp-2 c = search needs
+
+element-copy-out-wp-2 : tie.Need-element-copy-out-wp-2 Inv-loop μ-loop
+element-copy-out-wp-2 c = search needs
+
+mul-wp-3 : tie.Need-mul-wp-3 Inv-loop μ-loop
+mul-wp-3 c = search needs
+
+array-write-wp : tie.Need-array-write-wp Inv-loop μ-loop
+array-write-wp c = search needs
+
+add-j : tie.Need-add-j Inv-loop μ-loop
+add-j c = search needs
+
+loop-less : tie.Need-loop-less Inv-loop μ-loop
+loop-less c = search needs
+
+loop-again : tie.Need-loop-again Inv-loop μ-loop
+unfolding primeAt _⊕_
+loop-again c = (search needs, search needs, table-more _ _ _ _ (search needs) refl (c .before .before .before .loop .inv .2))
+
+returns : tie.Need-returns Inv-loop μ-loop
+unfolding W′
+returns c =
+    let l = c .before .loop in
+    let e : l .j ≡ 64 = omega arith in
+    sym (take-whole (l .wp) 64 (l .inv .0)) ∙ (rw e at (l .inv .2))
+
+pub primes-spec : {M : Type 1} → statement M
+primes-spec =
+    tie.close
+    (tie.spec Inv-loop μ-loop loop-holds mul-wp element-copy-out-wp add-wp mul-wp-2 element-copy-out-wp-2 mul-wp-3
+    array-write-wp add-j loop-less loop-again returns)

@@ -1,0 +1,71 @@
+-- `sm3_compress::xor_words` meets its contract. The loop's invariant: the first i words are those of xorEach a b; the
+-- measure is what is left of 8. Assumes nothing.
+use borrow.Author.Needs.{needs}
+use mathlib.Core.Path.{_≡_, refl, sym, _∙_}
+use Prim.Native.Nat.{_-_, _≤_}
+use native.Mathlib.Omega.{arith}
+use lib.ListN.{length, take}
+use Rattle.words.specs.Lists.{table, xorEach}
+use Rattle.words.specs.Word.{_⊕_}
+use Rattle.words.proofs.Lists.{table-more, as-table, take-whole, getD-xorEach, length-xorEach}
+use Rattle.sm3_compress.specs.Standard.{at}
+use Rattle.sm3_compress.proofs.xor_words.Statement.{statement}
+use Rattle.sm3_compress.proofs.xor_words.Tie as tie
+
+abbrev Inv-loop : tie.InvT-loop
+Inv-loop a b out₀ i₀ out i = (length out ≡ 8) × (i ≤ 8) × (take i out ≡ table (at (xorEach a b)) i)
+
+abbrev μ-loop : tie.MeasureT-loop
+μ-loop a b out₀ i₀ out i = 8 - i
+
+loop-holds : tie.Need-loop-holds Inv-loop μ-loop
+unfolding table
+loop-holds c = (refl, search needs, refl)
+
+mul-out : tie.Need-mul-out Inv-loop μ-loop
+mul-out c = search needs
+
+array-read-out : tie.Need-array-read-out Inv-loop μ-loop
+array-read-out c = search needs
+
+mul-out-2 : tie.Need-mul-out-2 Inv-loop μ-loop
+mul-out-2 c = search needs
+
+array-read-out-2 : tie.Need-array-read-out-2 Inv-loop μ-loop
+array-read-out-2 c = search needs
+
+mul-out-3 : tie.Need-mul-out-3 Inv-loop μ-loop
+mul-out-3 c = search needs
+
+array-write-out : tie.Need-array-write-out Inv-loop μ-loop
+array-write-out c = search needs
+
+add-i : tie.Need-add-i Inv-loop μ-loop
+add-i c = search needs
+
+loop-less : tie.Need-loop-less Inv-loop μ-loop
+loop-less c = search needs
+
+loop-again : tie.Need-loop-again Inv-loop μ-loop
+unfolding _⊕_
+loop-again c =
+    let l = c .before .loop in
+    let a = c .before .before .args .t1 in
+    let b = c .before .before .args .t2 in
+    let e : length a ≡ length b = omega arith in
+    (search needs, search needs, table-more _ _ _ _ (search needs) (sym (getD-xorEach a b (l .i) e)) (l .inv .2))
+
+returns : tie.Need-returns Inv-loop μ-loop
+returns c =
+    let l = c .before .loop in
+    let a = c .before .before .args .t1 in
+    let b = c .before .before .args .t2 in
+    let e : l .i ≡ 8 = omega arith in
+    let n : length (xorEach a b) ≡ 8 = length-xorEach a b (omega arith) ∙ omega arith in
+    sym (take-whole (l .out) 8 (l .inv .0)) ∙ (rw e at (l .inv .2)) ∙ sym (as-table (xorEach a b) 8 n)
+
+pub xor-words-spec : {M : Type 1} → statement M
+xor-words-spec =
+    tie.close
+    (tie.spec Inv-loop μ-loop loop-holds mul-out array-read-out mul-out-2 array-read-out-2 mul-out-3 array-write-out
+    add-i loop-less loop-again returns)

@@ -1,0 +1,7 @@
+pub mod Bytes
+pub mod Choice
+pub mod Copy
+pub mod Lists
+pub mod OneOutcome
+pub mod Word
+pub mod Xor

@@ -1,0 +1,78 @@
+-- `words::copy_at` meets its contract. The loop's invariant: the first j elements of src are laid over out; the measure is
+-- what is left of n. Assumes nothing.
+use mathlib.Core.Path.{_≡_, refl}
+use Prim.Native.Nat.{_-_}
+use native.Mathlib.Omega.{arith}
+use borrow.Author.Needs.{needs}
+use lib.ListN.{length}
+use Rattle.words.proofs.Copy.{Laid, laid-none, laid-more, laid-length, laid-all, no-room}
+use Rattle.words.proofs.copy_at.Statement.{statement}
+use Rattle.words.proofs.copy_at.Tie as tie
+
+abbrev Inv-loop : tie.InvT-loop
+Inv-loop out₀ at src n j₀ out j = Laid out₀ at src n out j
+
+abbrev μ-loop : tie.MeasureT-loop
+μ-loop out₀ at src n j₀ out j = n - j
+
+sub-smaller : tie.Need-sub-smaller Inv-loop μ-loop
+sub-smaller c = search needs
+
+smaller-requires : tie.Need-smaller-requires Inv-loop μ-loop
+smaller-requires c κs = search needs
+
+loop-holds : tie.Need-loop-holds Inv-loop μ-loop
+loop-holds c = laid-none (c .smaller .ensures)
+
+-- the slice keeps its length
+long : (c : tie.At-loop Inv-loop μ-loop)
+    → length (c .loop .out) ≡ length (c .before .before .before .before .before .args .out .now)
+long c = laid-length (c .loop .inv) (omega arith)
+
+shared-slice-read-out : tie.Need-shared-slice-read-out Inv-loop μ-loop
+shared-slice-read-out c = omega arith
+
+add-out : tie.Need-add-out Inv-loop μ-loop
+add-out c = omega arith
+
+slice-write-out : tie.Need-slice-write-out Inv-loop μ-loop
+slice-write-out c = omega (arith, long (c .before .before))
+
+add-j : tie.Need-add-j Inv-loop μ-loop
+add-j c = omega arith
+
+loop-less : tie.Need-loop-less Inv-loop μ-loop
+loop-less c = omega arith
+
+loop-again : tie.Need-loop-again Inv-loop μ-loop
+loop-again c = laid-more (c .before .before .loop .inv) (omega arith) refl
+
+same-length : tie.Need-same-length Inv-loop μ-loop
+same-length c = long (c .before)
+
+returns : tie.Need-returns Inv-loop μ-loop
+returns c = record { output = laid-all (c .before .loop .inv) (omega arith) }
+
+returns-2 : tie.Need-returns-2 Inv-loop μ-loop
+returns-2 c =
+    let a = c .before .before .before .args in
+    record { output = no-room (a .out .now) (a .at) (a .src .now) (omega arith) }
+
+pub copy-at-spec : {M : Type 1} → statement M
+copy-at-spec =
+    tie.close
+    (tie.spec
+    Inv-loop
+    μ-loop
+    sub-smaller
+    smaller-requires
+    loop-holds
+    shared-slice-read-out
+    add-out
+    slice-write-out
+    add-j
+    loop-less
+    loop-again
+    same-length
+    returns
+    returns-2)

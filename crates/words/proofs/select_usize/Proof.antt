@@ -1,0 +1,17 @@
+-- `words::select_usize` meets its contract: the mask puts all bits of a ^ b on a, or none. Assumes nothing.
+use borrow.Author.Needs.{needs}
+use Rattle.words.proofs.Choice.{masked}
+use Rattle.words.proofs.select_usize.Statement.{statement}
+use Rattle.words.proofs.select_usize.Tie as tie
+
+cast-mask : tie.Need-cast-mask
+cast-mask c = search needs
+
+mul-mask : tie.Need-mul-mask
+mul-mask c = search needs
+
+returns : tie.Need-returns
+returns c = masked 64 (c .fits .a .fits) (c .fits .b .fits) (c .args .choice)
+
+pub select-usize-spec : {M : Type 1} → statement M
+select-usize-spec = tie.close (tie.spec cast-mask mul-mask returns)

@@ -1,0 +1,5 @@
+pub mod Bytes
+pub mod Choice
+pub mod Lists
+pub mod Promise
+pub mod Word

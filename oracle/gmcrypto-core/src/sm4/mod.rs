@@ -1,0 +1,2 @@
+pub mod cipher;
+pub mod mode_cbc;

@@ -1,0 +1,2 @@
+pub mod key_schedule;
+pub mod record;
