@@ -15,7 +15,7 @@ use Rattle.sm3.specs.Standard.{IV, zeros, ending, iteration, iterated, b
 use Rattle.sm3.specs.State.{fresh, rest, over, absorbed, pending, base, taken, updated, finalized, hashed}
 use Rattle.sm3.proofs.Ending.{digested}
 use Rattle.sm3.proofs.Iteration.{iteration-more, rest-more, length-rest}
-use Rattle.sm3.proofs.Taken.{update-takes}
+use Rattle.sm3.proofs.Taken.{update-takes, taken-fits}
 
 -- the first bytes of what is laid over the front
 pub take-over : (x b : List ℕ) (n : ℕ) → length x ≡ n → take n (over x b) ≡ x
@@ -106,3 +106,24 @@ cut ds = holds-digest (fed fresh ds) (joined ds) (fed-holds fresh [] ds fresh-ho
 -- and so does no cut at all
 pub uncut : (m : List ℕ) → finalized (updated fresh m .hasher) ≡ hashed m
 uncut m = holds-digest (updated fresh m .hasher) m (updated-holds fresh [] m fresh-holds)
+
+-- ---- the same for a state by `taken`, as the MAC above has it
+
+-- what updates leave is in range
+pub fed-fits : (h : Sm3) (ds : List (List ℕ)) → h .«buffer_len» < 64 → fed h ds .«buffer_len» < 64
+unfolding fed
+fed-fits h [] k = k
+fed-fits h (d ∷ ds) k = fed-fits (updated h d .hasher) ds (rw (update-takes h d k) (taken-fits h d))
+
+-- a first part a, then any others
+pub taken-cut : (a : List ℕ) (ds : List (List ℕ)) → finalized (fed (taken fresh a) ds) ≡ hashed (a ++ joined ds)
+unfolding fed joined fresh
+taken-cut a ds = ap (λ (h : Sm3). finalized (fed h ds)) (sym (update-takes fresh a (omega arith))) ∙ cut (a ∷ ds)
+
+-- two parts
+pub taken-twice : (a b : List ℕ) → finalized (taken (taken fresh a) b) ≡ hashed (a ++ b)
+unfolding fed joined
+taken-twice a b =
+    ap finalized (sym (update-takes (taken fresh a) b (taken-fits fresh a)))
+    ∙ taken-cut a (b ∷ [])
+    ∙ ap (λ (l : List ℕ). hashed (a ++ l)) (append-nil b)

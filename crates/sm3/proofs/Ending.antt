@@ -5,16 +5,16 @@ use Prim.Native.Nat.{ℕ, zero, suc, _+_, _-_, _*_, _/_, _%_, _^_, _≤_, _<_}
 use native.Mathlib.Numerals.{add-one}
 use native.Mathlib.Omega.{arith}
 use borrow.Author.Tests.{lt-ltb}
-use lib.ListN.{length, set, take, drop, replicate, length-append, length-replicate, length-set, drop-of-length-le, replicate-append-replicate}
+use lib.ListN.{length, getD, set, take, drop, replicate, length-append, length-replicate, length-set, drop-of-length-le, replicate-append-replicate}
 use lib.Seq.{append-snoc, take-suc-set, length-take-le, take-append-add}
 use Rattle.answers.specs.Answers.{Done}
 use Rattle.words.proofs.Bytes.{length-be, be-wrap-64}
-use Rattle.words.proofs.Lists.{put-fits, take-replicate}
+use Rattle.words.proofs.Lists.{put-fits, take-replicate, length-join}
 use Rattle.words.specs.Bytes.{be}
 use Rattle.words.specs.Lists.{put}
 use Rattle.sm3_compress.specs.Standard.{CF}
 use Rattle.sm3.specs.declared.Sm3.{Sm3}
-use Rattle.sm3.specs.Standard.{zeros, count, ending, iteration, bytesOf}
+use Rattle.sm3.specs.Standard.{zeros, count, ending, iteration, wordBytes, bytesOf}
 use Rattle.sm3.specs.State.{pending, finalized}
 use Rattle.sm3.proofs.Iteration.{iteration-block, iteration-one}
 
@@ -112,3 +112,13 @@ pub digested : (h : Sm3) (x : List ℕ) → h .«buffer_len» < 64
     → record { answer = Done; bytes = x } ≡ finalized h
 unfolding finalized
 digested h x k e = rw (lt-ltb (h .«buffer_len») 64 k, e)
+
+-- such a state's digest is not refused
+pub digest-done : (h : Sm3) → h .«buffer_len» < 64 → finalized h ≡ record { answer = Done; bytes = finalized h .bytes }
+unfolding finalized
+digest-done h k = rw (lt-ltb (h .«buffer_len») 64 k)
+
+-- eight words are 32 bytes
+pub length-bytesOf : (v : List ℕ) → length (bytesOf v) ≡ 32
+unfolding bytesOf wordBytes
+length-bytesOf v = length-join 4 (wordBytes v) 8 (λ k b. length-be 4 (getD v k 0))

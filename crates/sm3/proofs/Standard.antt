@@ -10,6 +10,7 @@ use Rattle.words.specs.Bytes.{number}
 use Rattle.sm3.specs.declared.Digest.{Digest}
 use Rattle.sm3.specs.Standard.{IV, count, ending, padded, iteration, bytesOf, SM3}
 use Rattle.sm3.specs.State.{hashed}
+use Rattle.sm3.proofs.Ending.{length-bytesOf}
 
 -- below 2^61 bytes `hash` is SM3
 pub hash-standard : (m : List ℕ) → length m < 2 ^ 61 → hashed m ≡ record { answer = Done; bytes = SM3 m }
@@ -25,3 +26,12 @@ count-exact n h = number-be 8 (8 * n) ∙ omega arith
 pub count-wrapped : (n : ℕ) → number (count (n % 2 ^ 64)) ≡ 8 * n % 2 ^ 64
 unfolding count
 count-wrapped n = number-be 8 (8 * (n % 2 ^ 64)) ∙ omega arith
+
+-- a digest is 32 bytes
+pub length-hashed : (m : List ℕ) → length (hashed m .bytes) ≡ 32
+unfolding hashed
+length-hashed m = length-bytesOf (iteration IV (m ++ ending (length m) (length m % 2 ^ 64)))
+
+pub length-SM3 : (m : List ℕ) → length (SM3 m) ≡ 32
+unfolding SM3
+length-SM3 m = length-bytesOf (iteration IV (padded m))

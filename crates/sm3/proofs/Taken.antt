@@ -10,7 +10,7 @@ use lib.Dec.{ltb, leb}
 use lib.ListN.{length, take, drop, length-append, length-drop, drop-of-length-le, take-append-drop}
 use lib.Seq.{length-take-le, take-at}
 use Rattle.answers.specs.Answers.{Done}
-use Rattle.words.proofs.Lists.{put-fits, take-whole}
+use Rattle.words.proofs.Lists.{put-fits}
 use Rattle.words.specs.Lists.{put}
 use Rattle.sm3_compress.specs.Standard.{CF}
 use Rattle.sm3.specs.declared.Sm3.{Sm3}
@@ -28,9 +28,10 @@ pub update-takes : (h : Sm3) (d : List ℕ) → h .«buffer_len» < 64 → updat
 unfolding updated
 update-takes h d k = rw (lt-ltb (h .«buffer_len») 64 k)
 
--- the part of a slice from n to its end
-pub part-to-end : (n : ℕ) (l : List ℕ) → take (length l - n) (drop n l) ≡ drop n l
-part-to-end n l = take-whole (drop n l) (length l - n) (length-drop n l)
+-- what an update leaves is in range
+pub taken-fits : (h : Sm3) (d : List ℕ) → taken h d .«buffer_len» < 64
+unfolding taken absorbed
+taken-fits h d = omega arith
 
 -- a part laid over the front
 pub put-over : (x b : List ℕ) → length x ≤ length b → put 0 x b ≡ over x b

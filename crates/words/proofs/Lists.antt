@@ -23,6 +23,10 @@ use Rattle.words.proofs.Xor.{xor-twice}
 pub take-whole : (a : List ℕ) (n : ℕ) → length a ≡ n → take n a ≡ a
 take-whole a n e = take-all n a (omega arith)
 
+-- a part from n to the end
+pub part-to-end : (n : ℕ) (l : List ℕ) → take (length l - n) (drop n l) ≡ drop n l
+part-to-end n l = take-whole (drop n l) (length l - n) (length-drop n l)
+
 -- a part in the middle, cut from either side first
 pub take-drop : (n a : ℕ) (l : List ℕ) → take n (drop a l) ≡ drop a (take (a + n) l)
 take-drop n zero l = rw (zero-add n)
@@ -230,6 +234,18 @@ module _ (w : ℕ) (f : ℕ → List ℕ) where
       put-fits (m * w) (f m) (front ++ rest) (simp (length-append, length-drop) (omega (arith, suc-mul m w)))
       ∙ rw (take-at front rest (m * w) l, e, drop-append-add front rest w, drop-drop w (m * w) o, suc-mul m w)
       (sym (append-assoc front (f m) (drop (m * w + w) o)))
+
+-- ---- a list made element by element
+
+-- one turn of a loop that makes x
+pub made-more : (x a : List ℕ) (i v : ℕ) → i < length a → i < length x → v ≡ getD x i 0 → take i a ≡ take i x
+    → take (i + 1) (set a i v) ≡ take (i + 1) x
+made-more x a i v h k e p =
+    rw (add-one i, take-suc-set a i v h, take-suc x i 0 k) (ap₂ (λ (l : List ℕ) (y : ℕ). l ++ (y ∷ [])) p e)
+
+-- its end
+pub made-all : (x a : List ℕ) (n : ℕ) → length a ≡ n → length x ≡ n → take n a ≡ take n x → a ≡ x
+made-all x a n h k p = sym (take-whole a n h) ∙ p ∙ take-whole x n k
 
 -- ---- exclusive or of two lists of one length
 

@@ -1,6 +1,8 @@
 -- Lists that the definitions above are written with. Assumes nothing.
+use mathlib.Core.Bool.{Bool, true, false, _&&_}
 use mathlib.Core.List.{List, [], _∷_, _++_}
 use Prim.Native.Nat.{ℕ, zero, suc, _+_, _-_, _*_}
+use lib.Dec.{eqb}
 use lib.ListN.{length, getD, take, drop}
 use Rattle.words.specs.Word.{_⊕_}
 
@@ -28,6 +30,13 @@ unfoldable pub xorEach : List ℕ → List ℕ → List ℕ
 xorEach [] b = []
 xorEach (x ∷ a) [] = []
 xorEach (x ∷ a) (y ∷ b) = (x ⊕ y) ∷ xorEach a b
+
+-- whether two lists are the same, element by element
+unfoldable pub agree : List ℕ → List ℕ → Bool
+agree [] [] = true
+agree [] (y ∷ b) = false
+agree (x ∷ a) [] = false
+agree (x ∷ a) (y ∷ b) = eqb x y && agree a b
 
 -- out with src laid over it from index at on, as much of src as there is room for
 unfoldable pub put : ℕ → List ℕ → List ℕ → List ℕ

@@ -5,10 +5,11 @@ use Prim.Native.Nat.{ℕ, _-_, _*_, _/_, _%_, _≤_}
 use native.Mathlib.Omega.{arith}
 use borrow.Author.Needs.{needs}
 use lib.ListN.{length, drop}
+use Rattle.words.proofs.Lists.{part-to-end}
 use Rattle.words.specs.Lists.{put}
 use Rattle.sm3.specs.State.{rest, absorbed}
 use Rattle.sm3.proofs.Iteration.{length-rest}
-use Rattle.sm3.proofs.Taken.{made, part-to-end, put-over}
+use Rattle.sm3.proofs.Taken.{made, put-over}
 use Rattle.sm3.proofs.absorb.Statement.{statement}
 use Rattle.sm3.proofs.absorb.Tie as tie
 

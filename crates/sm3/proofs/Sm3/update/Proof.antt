@@ -7,8 +7,9 @@ use borrow.Author.Needs.{needs}
 use borrow.Author.Tests.{le-ltb}
 use lib.ListN.{length}
 use lib.Seq.{length-take-le}
+use Rattle.words.proofs.Lists.{part-to-end}
 use Rattle.sm3.specs.State.{absorbed, updated}
-use Rattle.sm3.proofs.Taken.{made, accepted, taken-empty, taken-short, taken-full, part-to-end}
+use Rattle.sm3.proofs.Taken.{made, accepted, taken-empty, taken-short, taken-full}
 use Rattle.sm3.proofs.Sm3.update.Statement.{statement}
 use Rattle.sm3.proofs.Sm3.update.Tie as tie
 

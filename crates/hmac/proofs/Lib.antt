@@ -1,0 +1,3 @@
+pub mod KeyBlock
+pub mod Mac
+pub mod Range

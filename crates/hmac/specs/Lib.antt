@@ -1,0 +1,3 @@
+pub mod Cutting
+pub mod Rfc2104
+pub mod State
