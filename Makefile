@@ -5,7 +5,7 @@ RUST_SRC = ../shared/docs/src
 MAKEFLAGS += --no-print-directory
 CARGO = cd build/oracle && cargo build -q --release --offline --target-dir target
 
-.PHONY: all test vectors oracle bench clean help workspace x86_64 FORCE
+.PHONY: all test vectors oracle bench clean help workspace FORCE
 
 all: build/libborder.a
 
@@ -14,7 +14,7 @@ help:
 	@echo 'make test     the gate: the form of the statements, the layout, every proof'
 	@echo 'make vectors  prove and run the program of published vectors'
 	@echo 'make oracle   build the Rust, unchanged, behind the line protocol, and try it (RUST_SRC=DIR)'
-	@echo 'make bench    time the library against the Rust (x86-64 only)'
+	@echo 'make bench    time the code against the Rust, in one run'
 	@echo 'make clean    remove build/ and target/'
 
 # Nothing may come after rt ci: its last line is the last of the run.
@@ -43,15 +43,15 @@ build/noustrel-oracle: workspace
 	$(CARGO) -p noustrel-oracle
 	cp build/oracle/target/release/noustrel-oracle $@
 
-bench: x86_64 build/libborder.a workspace
-	$(CARGO) -p noustrel-bench
+# Elsewhere than on x86-64 the same LLVM module, compiled for the machine at hand, is timed.
+bench: workspace
+	@if [ "$$(uname -m)" = x86_64 ]; then $(MAKE) build/libborder.a && mkdir -p build/native && cp build/libborder.a build/native/; \
+	else bench/native border build/native/libborder.a; fi
+	NOUSTREL_LIB="$$PWD/build/native" && export NOUSTREL_LIB && $(CARGO) -p noustrel-bench
 	build/oracle/target/release/noustrel-bench
 
 workspace:
 	oracle/prepare $(RUST_SRC) build
-
-x86_64:
-	@[ "$$(uname -m)" = x86_64 ] || { echo "make bench: the library is code for x86-64, this machine is $$(uname -m)" >&2; exit 1; }
 
 clean:
 	rm -rf build target

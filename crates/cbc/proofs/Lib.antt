@@ -1,0 +1,5 @@
+pub mod Cbc
+pub mod Deciphered
+pub mod OneOutcome
+pub mod Sm4
+pub mod Turn

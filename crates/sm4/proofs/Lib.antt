@@ -1,0 +1,3 @@
+pub mod AnnexA
+pub mod Inverse
+pub mod Rounds

@@ -1,0 +1,17 @@
+-- `sm4::t_round` meets its contract: L after tau. Assumes nothing.
+use borrow.Author.Needs.{needs}
+use Rattle.sm4.specs.Standard.{T}
+use Rattle.sm4.proofs.t_round.Statement.{statement}
+use Rattle.sm4.proofs.t_round.Tie as tie
+
+returns : tie.Need-returns
+unfolding T
+returns c = cc
+
+pub t-round-spec : {M : Type 1} → statement M
+t-round-spec =
+    tie.close
+    (tie.spec
+    (λ c κs. search needs)
+    (λ c κs. search needs)
+    returns)

@@ -1,0 +1,4 @@
+pub mod AnnexA
+pub mod Block
+pub mod Standard
+pub mod Tables

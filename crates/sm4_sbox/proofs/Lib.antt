@@ -1,0 +1,4 @@
+pub mod Inverse
+pub mod Once
+pub mod Pass
+pub mod Table

@@ -1,0 +1,3 @@
+pub mod Once
+pub mod Pass
+pub mod Standard
