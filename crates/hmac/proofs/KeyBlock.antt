@@ -1,13 +1,13 @@
 -- The key's block: 64 bytes, zeros behind the key. Assumes nothing.
 use mathlib.Core.Bool.{Bool, true, false, cond}
-use mathlib.Core.List.{List, [], _++_}
-use mathlib.Core.Path.{_≡_, refl, sym, ap, _∙_}
-use Prim.Native.Nat.{ℕ, _+_, _-_, _≤_, _<_}
+use mathlib.Core.List.{List, _++_}
+use mathlib.Core.Path.{_≡_, refl, _∙_}
+use Prim.Native.Nat.{ℕ, _+_, _-_, _≤_}
 use native.Mathlib.Nat.{zero-add}
 use native.Mathlib.Omega.{arith}
 use borrow.Author.Tests.{ltb-false}
 use lib.Dec.{ltb}
-use lib.ListN.{length, drop, replicate, length-append, length-replicate}
+use lib.ListN.{length, replicate, length-append, length-replicate}
 use Rattle.words.proofs.Lists.{put-fits, drop-replicate, length-xorEach}
 use Rattle.words.specs.Lists.{put, xorEach}
 use Rattle.hmac.specs.Rfc2104.{extended, K′}

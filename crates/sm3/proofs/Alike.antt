@@ -3,13 +3,13 @@
 use mathlib.Core.Bool.{Bool, true, false}
 use mathlib.Core.Path.{_≡_, refl, sym, ap, ap₂, _∙_}
 use mathlib.Core.List.{List, [], _∷_, _++_}
-use Prim.Native.Nat.{ℕ, _+_, _%_, _^_, _<_}
+use Prim.Native.Nat.{ℕ, _+_, _%_, _^_}
 use lib.Dec.{ltb}
 use lib.ListN.{length, take}
 use Rattle.sm3.specs.declared.Sm3.{Sm3}
 use Rattle.sm3.specs.Cutting.{fed, Alike}
 use Rattle.sm3.specs.Standard.{iteration}
-use Rattle.sm3.specs.State.{rest, over, absorbed, pending, base, taken, updated, finalized}
+use Rattle.sm3.specs.State.{rest, absorbed, pending, base, taken, updated, finalized}
 use Rattle.sm3.proofs.Cutting.{take-over}
 use Rattle.sm3.proofs.Iteration.{length-rest}
 

@@ -3,14 +3,14 @@
 use mathlib.Core.Bool.{Bool, true, false, cond, _&&_}
 use mathlib.Core.Path.{_≡_, refl, sym, ap, ap₂, _∙_}
 use mathlib.Core.List.{List, [], _∷_, _++_, append-assoc, append-nil}
-use Prim.Native.Nat.{ℕ, zero, suc, _+_, _-_, _*_, _/_, _%_, _^_, _≤_, _<_}
+use Prim.Native.Nat.{ℕ, _+_, _-_, _%_, _^_, _≤_, _<_}
 use native.Mathlib.Omega.{arith}
-use borrow.Author.Tests.{lt-ltb, leb-true}
+use borrow.Author.Tests.{leb-true}
 use lib.Dec.{ltb, leb}
-use lib.ListN.{length, take, drop, length-append, length-drop, take-append-drop}
+use lib.ListN.{length, take, drop, length-append, length-drop}
 use lib.Seq.{length-take-le, take-at}
 use Rattle.sm3.specs.declared.Sm3.{Sm3}
-use Rattle.sm3.specs.Cutting.{joined, fed, Alike}
+use Rattle.sm3.specs.Cutting.{joined, fed}
 use Rattle.sm3.specs.Standard.{IV, zeros, ending, iteration, iterated, bytesOf}
 use Rattle.sm3.specs.State.{fresh, rest, over, absorbed, pending, base, taken, updated, finalized, hashed}
 use Rattle.sm3.proofs.Ending.{digested}

@@ -1,11 +1,11 @@
 -- The ending of a message as `finalize` writes it, in one block or in two. Assumes nothing.
-use mathlib.Core.Path.{_≡_, refl, sym, ap, ap₂, _∙_}
-use mathlib.Core.List.{List, [], _∷_, _++_, append-assoc, append-nil}
-use Prim.Native.Nat.{ℕ, zero, suc, _+_, _-_, _*_, _/_, _%_, _^_, _≤_, _<_}
+use mathlib.Core.Path.{_≡_, sym, ap, _∙_}
+use mathlib.Core.List.{List, _∷_, _++_, append-assoc, append-nil}
+use Prim.Native.Nat.{ℕ, suc, _+_, _-_, _*_, _%_, _^_, _≤_, _<_}
 use native.Mathlib.Numerals.{add-one}
 use native.Mathlib.Omega.{arith}
 use borrow.Author.Tests.{lt-ltb}
-use lib.ListN.{length, getD, set, take, drop, replicate, length-append, length-replicate, length-set, drop-of-length-le, replicate-append-replicate}
+use lib.ListN.{length, getD, set, take, replicate, length-append, length-replicate, length-set, drop-of-length-le, replicate-append-replicate}
 use lib.Seq.{append-snoc, take-suc-set, length-take-le, take-append-add}
 use Rattle.answers.specs.Answers.{Done}
 use Rattle.words.proofs.Bytes.{length-be, be-wrap-64}

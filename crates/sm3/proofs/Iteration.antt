@@ -1,12 +1,11 @@
 -- The iteration over a message in parts. Assumes nothing.
 use mathlib.Core.Path.{_≡_, refl, sym, ap, ap₂, _∙_}
-use mathlib.Core.List.{List, [], _∷_, _++_, append-assoc, append-nil}
+use mathlib.Core.List.{List, [], _++_, append-assoc, append-nil}
 use Prim.Native.Nat.{ℕ, zero, suc, _+_, _-_, _*_, _/_, _%_, _≤_, _<_}
 use native.Mathlib.Nat.{add-zero, add-suc}
 use native.Mathlib.Omega.{arith}
 use lib.ListN.{length, take, drop, length-append, length-drop, take-append-drop}
 use lib.Seq.{length-take-le, take-append-le, drop-append-le, drop-drop, take-all, drop-at, drop-append-add}
-use Rattle.words.specs.Lists.{block}
 use Rattle.sm3_compress.specs.Standard.{CF}
 use Rattle.sm3.specs.Standard.{iterated, iteration}
 use Rattle.sm3.specs.State.{rest}

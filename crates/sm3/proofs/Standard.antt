@@ -1,14 +1,13 @@
 -- `hash` is SM3 of GB/T 32905 below 2^61 bytes; from there on the count of bits has wrapped. Assumes nothing.
-use mathlib.Core.Path.{_≡_, ap, _∙_}
+use mathlib.Core.Path.{_≡_, _∙_}
 use mathlib.Core.List.{List, _++_}
-use Prim.Native.Nat.{ℕ, _+_, _*_, _/_, _%_, _^_, _<_}
+use Prim.Native.Nat.{ℕ, _+_, _*_, _%_, _^_, _<_}
 use native.Mathlib.Omega.{arith}
 use lib.ListN.{length}
 use Rattle.answers.specs.Answers.{Done}
 use Rattle.words.proofs.Bytes.{number-be}
 use Rattle.words.specs.Bytes.{number}
-use Rattle.sm3.specs.declared.Digest.{Digest}
-use Rattle.sm3.specs.Standard.{IV, count, ending, padded, iteration, bytesOf, SM3}
+use Rattle.sm3.specs.Standard.{IV, count, ending, padded, iteration, SM3}
 use Rattle.sm3.specs.State.{hashed}
 use Rattle.sm3.proofs.Ending.{length-bytesOf}
 

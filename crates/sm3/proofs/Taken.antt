@@ -1,21 +1,19 @@
 -- What `update` makes of a state, by its three cases: no byte waits; the block stays short; the block is completed.
 -- Assumes nothing.
-use mathlib.Core.Path.{_≡_, refl, sym, ap, ap₂, _∙_}
-use mathlib.Core.List.{List, [], _∷_, _++_, append-assoc, append-nil}
-use Prim.Native.Nat.{ℕ, zero, suc, _+_, _-_, _*_, _/_, _%_, _^_, _≤_, _<_}
+use mathlib.Core.Path.{_≡_, sym, ap, ap₂, _∙_}
+use mathlib.Core.List.{List, _++_, append-assoc, append-nil}
+use Prim.Native.Nat.{ℕ, _+_, _-_, _%_, _^_, _≤_, _<_}
 use native.Mathlib.Nat.{zero-add}
 use native.Mathlib.Omega.{arith}
-use borrow.Author.Tests.{lt-ltb, le-ltb, le-leb, lt-leb}
-use lib.Dec.{ltb, leb}
-use lib.ListN.{length, take, drop, length-append, length-drop, drop-of-length-le, take-append-drop}
+use borrow.Author.Tests.{lt-ltb, le-leb, lt-leb}
+use lib.ListN.{length, take, drop, length-append, drop-of-length-le, take-append-drop}
 use lib.Seq.{length-take-le, take-at}
 use Rattle.answers.specs.Answers.{Done}
 use Rattle.words.proofs.Lists.{put-fits}
 use Rattle.words.specs.Lists.{put}
 use Rattle.sm3_compress.specs.Standard.{CF}
 use Rattle.sm3.specs.declared.Sm3.{Sm3}
-use Rattle.sm3.specs.Standard.{iteration}
-use Rattle.sm3.specs.State.{rest, over, absorbed, pending, base, taken, updated}
+use Rattle.sm3.specs.State.{over, absorbed, pending, base, taken, updated}
 use Rattle.sm3.proofs.Iteration.{iteration-block, iteration-short, rest-append, rest-short}
 
 -- a state that is not refused, by what `taken` makes of it

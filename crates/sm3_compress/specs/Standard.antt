@@ -1,8 +1,8 @@
 -- GB/T 32905-2016 (SM3), sections 4.2 to 4.4, 5.3.2 and 5.3.3: constants, Boolean functions, permutations, message
 -- expansion and the compression function CF, in the standard's names. A word is a number below 2^32. Assumes nothing.
 use mathlib.Core.Bool.{cond}
-use mathlib.Core.List.{List, [], _∷_, _++_}
-use Prim.Native.Nat.{ℕ, zero, suc, _+_, _-_, _*_, _%_, _^_}
+use mathlib.Core.List.{List, [], _∷_}
+use Prim.Native.Nat.{ℕ, zero, suc, _+_, _-_, _%_, _^_}
 use lib.Bits.{bitAnd, bitOr}
 use lib.Dec.{ltb}
 use lib.ListN.{length, getD}

@@ -1,5 +1,5 @@
 -- GB/T 32905-2016, annex A: the two messages and what is printed for them. Assumes nothing.
-use mathlib.Core.List.{List, [], _∷_, _++_}
+use mathlib.Core.List.{List, [], _∷_}
 use mathlib.Core.Path.{_≡_}
 use Prim.Native.Nat.{ℕ}
 use lib.ListN.{take, drop}

@@ -1,5 +1,5 @@
 -- Numbers 0 or 1 for a test, and a choice by one. Assumes nothing.
-use mathlib.Core.Bool.{Bool, true, false, cond}
+use mathlib.Core.Bool.{Bool, cond}
 use Prim.Native.Nat.{ℕ, _%_}
 use lib.Dec.{eqb}
 

@@ -2,7 +2,7 @@
 // rotate_left, sums of words, div_ceil; big-endian reads and writes; numbers 0 or 1 and selects by mask;
 // bounded copies and fills. Definitions in specs/, laws for the crates above in proofs/.
 ghost use mathlib.Core.Path.{_≡_};
-ghost use Prim.Native.Nat.{ℕ, _+_, _-_, _*_, _/_, _%_, _^_, _<_, min};
+ghost use Prim.Native.Nat.{_+_, _-_, _*_, _/_, _%_, _^_, _<_, min};
 ghost use lib.Dec.{eqb, ltb};
 ghost use Rattle.words.specs.Word.{_⋘_};
 ghost use Rattle.words.specs.Bytes.{be, number};

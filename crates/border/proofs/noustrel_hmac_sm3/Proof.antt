@@ -1,5 +1,4 @@
 -- `border::noustrel_hmac_sm3` meets its contract: the bytes of `hmac_sm3`, put where there is room for just them. Assumes nothing.
-use mathlib.Core.List.{List}
 use mathlib.Core.Path.{ap, _∙_}
 use borrow.Author.Needs.{needs}
 use Rattle.sm3.specs.declared.Digest.{Digest}

@@ -1,12 +1,11 @@
 -- `hmac::ct_eq` meets its contract. The loop's invariant: no difference is gathered exactly if the first i bytes agree; the
 -- measure is what is left of 32. Assumes nothing.
-use mathlib.Core.List.{List}
 use mathlib.Core.Path.{_≡_, refl, ap, ap₂, _∙_}
-use Prim.Native.Nat.{ℕ, _-_, _≤_}
+use Prim.Native.Nat.{_-_, _≤_}
 use native.Mathlib.Omega.{arith}
 use borrow.Author.Needs.{needs}
 use lib.Dec.{eqb}
-use lib.ListN.{length, take}
+use lib.ListN.{take}
 use Rattle.words.proofs.Agree.{agree-turn}
 use Rattle.words.proofs.Lists.{take-whole}
 use Rattle.words.specs.Choice.{bit}

@@ -1,7 +1,5 @@
 -- `hmac::hmac_sm3` meets its contract: one update of a started MAC, cut nowhere. Assumes nothing.
-use mathlib.Core.List.{List}
-use mathlib.Core.Path.{_≡_, ap, _∙_}
-use Prim.Native.Nat.{ℕ}
+use mathlib.Core.Path.{ap, _∙_}
 use borrow.Author.Needs.{needs}
 use Rattle.hmac.specs.declared.Keyed.{Keyed}
 use Rattle.hmac.specs.State.{updated, finalized}

@@ -5,7 +5,7 @@ use mathlib.Core.Path.{_≡_, refl, sym, ap, _∙_}
 use Prim.Native.Nat.{ℕ, _-_, _≤_, _<_}
 use native.Mathlib.Omega.{arith}
 use borrow.Author.Needs.{needs}
-use lib.ListN.{length, getD, take, replicate, length-replicate, getD-replicate}
+use lib.ListN.{length, getD, take, replicate, getD-replicate}
 use Rattle.words.proofs.Lists.{made-more, made-all, getD-xorEach, length-xorEach}
 use Rattle.words.specs.Lists.{xorEach}
 use Rattle.words.specs.Word.{_⊕_}

@@ -1,10 +1,10 @@
 -- `sm3::block_at` meets its contract: 64 bytes laid over 64 bytes are all there is. Assumes nothing.
 use mathlib.Core.List.{List}
-use mathlib.Core.Path.{_≡_, ap, _∙_}
+use mathlib.Core.Path.{_≡_, _∙_}
 use Prim.Native.Nat.{ℕ, _+_, _-_}
 use native.Mathlib.Omega.{arith}
 use borrow.Author.Needs.{needs}
-use lib.ListN.{length, take, drop, length-drop, length-replicate}
+use lib.ListN.{length, take, drop, length-drop}
 use lib.Seq.{length-take-le}
 use Rattle.words.proofs.Lists.{put-whole}
 use Rattle.sm3.proofs.block_at.Statement.{statement}

@@ -1,5 +1,5 @@
 -- `HmacSm3::finalize` meets its contract: two refusals, and the inner digest through the outer hash. Assumes nothing.
-use mathlib.Core.Path.{_≡_, ap, _∙_}
+use mathlib.Core.Path.{ap, _∙_}
 use native.Mathlib.Omega.{arith}
 use borrow.Author.Needs.{needs}
 use Rattle.sm3.specs.declared.Digest.{Digest}

@@ -1,6 +1,4 @@
 -- `HmacSm3::new` meets its contract: each hash has taken in the key's block with its pad. Assumes nothing.
-use mathlib.Core.List.{List}
-use mathlib.Core.Path.{_≡_, ap, _∙_}
 use borrow.Author.Needs.{needs}
 use Rattle.hmac.specs.State.{started}
 use Rattle.hmac.proofs.HmacSm3.new.Statement.{statement}

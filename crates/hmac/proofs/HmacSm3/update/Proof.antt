@@ -1,5 +1,5 @@
 -- `HmacSm3::update` meets its contract: two refusals, and the inner hash's update. Assumes nothing.
-use mathlib.Core.Path.{_≡_, ap, _∙_}
+use mathlib.Core.Path.{ap, _∙_}
 use native.Mathlib.Omega.{arith}
 use borrow.Author.Needs.{needs}
 use Rattle.answers.specs.Answers.{Done}
