@@ -43,10 +43,14 @@ build/noustrel-oracle: workspace
 	$(CARGO) -p noustrel-oracle
 	cp build/oracle/target/release/noustrel-oracle $@
 
-# Elsewhere than on x86-64 the same LLVM module, compiled for the machine at hand, is timed.
+# Elsewhere than on x86-64 the same LLVM modules, compiled for the machine at hand, are timed.
+TIMED = border sm4_timing
 bench: workspace
-	@if [ "$$(uname -m)" = x86_64 ]; then $(MAKE) build/libborder.a && mkdir -p build/native && cp build/libborder.a build/native/; \
-	else bench/native border build/native/libborder.a; fi
+	@mkdir -p build/native
+	@for crate in $(TIMED); do \
+	    if [ "$$(uname -m)" = x86_64 ]; then rt staticlib $$crate && cp target/staticlib/lib$$crate.a build/native/; \
+	    else bench/native $$crate build/native/lib$$crate.a; fi || exit 1; done
+	@$(CC) -O3 -c bench/scan.c -o build/native/scan.o && ar crs build/native/libscan.a build/native/scan.o
 	NOUSTREL_LIB="$$PWD/build/native" && export NOUSTREL_LIB && $(CARGO) -p noustrel-bench
 	build/oracle/target/release/noustrel-bench
 

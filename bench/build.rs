@@ -1,17 +1,15 @@
-//! Links libborder.a: from NOUSTREL_LIB, or from build/, two folders above the copy that is built.
+//! Links the archives that are timed: from NOUSTREL_LIB, where `make bench` puts them.
 
 use std::path::PathBuf;
 
 fn main() {
     println!("cargo:rerun-if-env-changed=NOUSTREL_LIB");
-    let folder = match std::env::var_os("NOUSTREL_LIB") {
-        Some(folder) => PathBuf::from(folder),
-        None => PathBuf::from(env!("CARGO_MANIFEST_DIR")).join("../.."),
-    };
-    println!(
-        "cargo:rerun-if-changed={}",
-        folder.join("libborder.a").display()
-    );
+    let folder = std::env::var_os("NOUSTREL_LIB").map(PathBuf::from);
+    let folder = folder.expect("NOUSTREL_LIB names the folder of the archives: use `make bench`");
+    for archive in ["border", "sm4_timing", "scan"] {
+        let file = folder.join(format!("lib{archive}.a"));
+        println!("cargo:rerun-if-changed={}", file.display());
+        println!("cargo:rustc-link-lib=static={archive}");
+    }
     println!("cargo:rustc-link-search=native={}", folder.display());
-    println!("cargo:rustc-link-lib=static=border");
 }

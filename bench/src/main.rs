@@ -1,77 +1,148 @@
-//! Times the library against the Rust on one buffer. Rounds of the two take turns, and the
-//! quickest round of each counts, so that what else the machine does weighs on both alike.
+//! Times the proved code against the Rust on the same buffers. Rounds take turns, and the quickest
+//! round of each counts, so that what else the machine does weighs on all alike. Buffers are not
+//! cleared in between.
 
 use std::hint::black_box;
 use std::time::Instant;
 
-use gmcrypto_core::sm3;
+use gmcrypto_core::sm4::cipher::Sm4Cipher;
+use gmcrypto_core::{hmac, sm3};
 
-const SIZES: [usize; 4] = [64, 1024, 16384, 65536];
-const ROUNDS: usize = 200;
-/// Bytes hashed in one round: long against the clock's grain, short against a time slice.
-const ROUND_BYTES: usize = 1 << 18;
+const ROUNDS: usize = 60;
+/// Seconds that a round of the slowest should take: long against the clock's grain.
+const ROUND: f64 = 0.002;
+
+const KEY: [u8; 16] = *b"0123456789abcdef";
+const IV: [u8; 16] = *b"fedcba9876543210";
 
 unsafe extern "C" {
-    fn noustrel_sm3(
+    fn noustrel_sm3(message: *const u8, len: usize, digest: *mut u8, digest_len: usize) -> u32;
+    fn noustrel_hmac_sm3(
+        key: *const u8,
+        key_len: usize,
         message: *const u8,
-        message_len: usize,
-        digest: *mut u8,
-        digest_len: usize,
+        len: usize,
+        mac: *mut u8,
+        mac_len: usize,
     ) -> u32;
+    fn timing_sm4_cbc(
+        key: *const u8,
+        key_len: usize,
+        iv: *const u8,
+        iv_len: usize,
+        body: *mut u8,
+        len: usize,
+    );
+    fn scan_sm4_cbc(key: *const u8, iv: *const u8, body: *mut u8, len: usize);
 }
 
-fn ours(message: &[u8]) -> [u8; 32] {
+// SAFETY, for all below: the spans are live, of the lengths given, and apart.
+
+fn our_sm3(data: &mut [u8]) -> [u8; 32] {
     let mut digest = [0; 32];
-    // SAFETY: both spans are live, of the lengths given, and apart.
-    let answer = unsafe {
-        noustrel_sm3(
-            message.as_ptr(),
-            message.len(),
-            digest.as_mut_ptr(),
-            digest.len(),
-        )
-    };
-    assert_eq!(answer, 0, "noustrel_sm3 answered {answer}");
+    let answer = unsafe { noustrel_sm3(data.as_ptr(), data.len(), digest.as_mut_ptr(), 32) };
+    assert_eq!(answer, 0);
     digest
 }
 
-fn seconds(calls: usize, message: &[u8], hash: fn(&[u8]) -> [u8; 32]) -> f64 {
-    let start = Instant::now();
-    for _ in 0..calls {
-        black_box(hash(black_box(message)));
-    }
-    start.elapsed().as_secs_f64()
+fn our_hmac(data: &mut [u8]) -> [u8; 32] {
+    let mut mac = [0; 32];
+    let answer = unsafe {
+        noustrel_hmac_sm3(KEY.as_ptr(), 16, data.as_ptr(), data.len(), mac.as_mut_ptr(), 32)
+    };
+    assert_eq!(answer, 0);
+    mac
 }
 
-fn agree(buffer: &[u8]) {
-    for len in (0..=200).chain(SIZES) {
-        let message = &buffer[..len];
-        assert_eq!(
-            ours(message),
-            sm3::hash(message),
-            "digests of {len} bytes differ"
-        );
+/// The last 32 bytes, or what there is, so that two ciphers can be compared.
+fn end(data: &[u8]) -> [u8; 32] {
+    let mut last = [0; 32];
+    let n = data.len().min(32);
+    last[..n].copy_from_slice(&data[data.len() - n..]);
+    last
+}
+
+fn our_cbc(data: &mut [u8]) -> [u8; 32] {
+    unsafe { timing_sm4_cbc(KEY.as_ptr(), 16, IV.as_ptr(), 16, data.as_mut_ptr(), data.len()) };
+    end(data)
+}
+
+fn scan_cbc(data: &mut [u8]) -> [u8; 32] {
+    unsafe { scan_sm4_cbc(KEY.as_ptr(), IV.as_ptr(), data.as_mut_ptr(), data.len()) };
+    end(data)
+}
+
+fn rust_cbc(data: &mut [u8]) -> [u8; 32] {
+    let cipher = black_box(Sm4Cipher::new(&KEY));
+    let mut prev = IV;
+    for chunk in data.chunks_exact_mut(16) {
+        let block: &mut [u8; 16] = chunk.try_into().unwrap();
+        for j in 0..16 {
+            block[j] ^= prev[j];
+        }
+        cipher.encrypt_block(block);
+        prev = *block;
     }
+    end(data)
+}
+
+type Work = fn(&mut [u8]) -> [u8; 32];
+
+fn seconds(work: Work, calls: usize, data: &mut [u8]) -> f64 {
+    let start = Instant::now();
+    for _ in 0..calls {
+        black_box(work(black_box(&mut *data)));
+    }
+    start.elapsed().as_secs_f64() / calls as f64
+}
+
+/// The quickest time of each, in rounds that take turns.
+fn times(works: &[Work], size: usize) -> Vec<f64> {
+    let fresh: Vec<u8> = (0..size).map(|i| (i * 7 + 3) as u8).collect();
+    let first = works[0](&mut fresh.clone());
+    for work in works {
+        assert_eq!(work(&mut fresh.clone()), first, "two of them differ at {size} bytes");
+    }
+    let mut data = fresh;
+    let calls: Vec<usize> = works
+        .iter()
+        .map(|work| (ROUND / seconds(*work, 1, &mut data)).ceil().min(1e5) as usize)
+        .collect();
+    let mut best = vec![f64::INFINITY; works.len()];
+    for _ in 0..ROUNDS {
+        for (k, work) in works.iter().enumerate() {
+            best[k] = best[k].min(seconds(*work, calls[k], &mut data));
+        }
+    }
+    best
 }
 
 fn main() {
-    let buffer: Vec<u8> = (0..65536u32).map(|i| (i * 7 + 3) as u8).collect();
-    agree(&buffer);
-    println!("work bytes ours_MB/s rust_MB/s ratio");
-    for size in SIZES {
-        let message = &buffer[..size];
-        let calls = ROUND_BYTES / size;
-        let (mut our_best, mut rust_best) = (f64::INFINITY, f64::INFINITY);
-        for _ in 0..ROUNDS {
-            our_best = our_best.min(seconds(calls, message, ours));
-            rust_best = rust_best.min(seconds(calls, message, sm3::hash));
+    println!("work bytes ours rust ratio (MB/s)");
+    let hashes: [(&str, [Work; 2]); 2] = [
+        ("sm3", [our_sm3, |data| sm3::hash(data)]),
+        ("hmac", [our_hmac, |data| hmac::hmac_sm3(&KEY, data)]),
+    ];
+    for (name, works) in hashes {
+        for size in [64, 1024, 16384, 65536] {
+            let t = times(&works, size);
+            let speed = |t: f64| size as f64 / 1e6 / t;
+            println!("{name} {size} {:.1} {:.1} {:.2}", speed(t[0]), speed(t[1]), t[1] / t[0]);
         }
-        let megabytes = (calls * size) as f64 / 1e6;
+    }
+    println!("work ours rust c-scan rust/ours c-scan/ours (microseconds)");
+    let ciphers: [Work; 3] = [our_cbc, rust_cbc, scan_cbc];
+    let key = times(&ciphers, 0);
+    let many = times(&ciphers, 16384);
+    let block: Vec<f64> = many.iter().zip(&key).map(|(m, k)| (m - k) / 1024.0).collect();
+    for (name, t) in [("sm4-key", key), ("sm4-enc", block)] {
         println!(
-            "sm3 {size} {:.1} {:.1} {:.2}",
-            megabytes / our_best,
-            megabytes / rust_best,
-            rust_best / our_best
+            "{name} {:.2} {:.2} {:.2} {:.1} {:.2}",
+            t[0] * 1e6,
+            t[1] * 1e6,
+            t[2] * 1e6,
+            t[1] / t[0],
+            t[2] / t[0]
         );
     }
 }
