@@ -19,30 +19,6 @@ loop-holds : tie.Need-loop-holds Inv-loop μ-loop
 unfolding rounds
 loop-holds c = (search needs, refl)
 
-cast-one-round : tie.Need-cast-one-round Inv-loop μ-loop
-cast-one-round c = search needs
-
-mul-one-round : tie.Need-mul-one-round Inv-loop μ-loop
-mul-one-round c = search needs
-
-element-copy-out-one-round : tie.Need-element-copy-out-one-round Inv-loop μ-loop
-element-copy-out-one-round c = search needs
-
-mul-one-round-2 : tie.Need-mul-one-round-2 Inv-loop μ-loop
-mul-one-round-2 c = search needs
-
-element-copy-out-one-round-2 : tie.Need-element-copy-out-one-round-2 Inv-loop μ-loop
-element-copy-out-one-round-2 c = search needs
-
-one-round-requires : tie.Need-one-round-requires Inv-loop μ-loop
-one-round-requires c κs = search needs
-
-add-j : tie.Need-add-j Inv-loop μ-loop
-add-j c = search needs
-
-loop-less : tie.Need-loop-less Inv-loop μ-loop
-loop-less c = search needs
-
 loop-again : tie.Need-loop-again Inv-loop μ-loop
 unfolding rounds
 loop-again c = (search needs, rw (add-one, ← c .before .before .before .before .loop .inv .1) (c .one-round .ensures))
@@ -56,5 +32,5 @@ returns c =
 pub all-rounds-spec : {M : Type 1} → statement M
 all-rounds-spec =
     tie.close
-    (tie.spec Inv-loop μ-loop loop-holds cast-one-round mul-one-round element-copy-out-one-round mul-one-round-2
-    element-copy-out-one-round-2 one-round-requires add-j loop-less loop-again returns)
+    (tie.spec Inv-loop μ-loop loop-holds (λ c. search needs) (λ c. search needs) (λ c. search needs) (λ c. search needs)
+    (λ c. search needs) (λ c κs. search needs) (λ c. search needs) (λ c. search needs) loop-again returns)

@@ -5,15 +5,9 @@ use Rattle.sm3_compress.specs.Standard.{P0}
 use Rattle.sm3_compress.proofs.p0.Statement.{statement}
 use Rattle.sm3_compress.proofs.p0.Tie as tie
 
-rotate-left-requires : tie.Need-rotate-left-requires
-rotate-left-requires c κs = search needs
-
-rotate-left-requires-2 : tie.Need-rotate-left-requires-2
-rotate-left-requires-2 c κs = search needs
-
 returns : tie.Need-returns
 unfolding P0 _⊕_
 returns c = cc
 
 pub p0-spec : {M : Type 1} → statement M
-p0-spec = tie.close (tie.spec rotate-left-requires rotate-left-requires-2 returns)
+p0-spec = tie.close (tie.spec (λ c κs. search needs) (λ c κs. search needs) returns)

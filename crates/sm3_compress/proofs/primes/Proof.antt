@@ -22,33 +22,6 @@ loop-holds : tie.Need-loop-holds Inv-loop μ-loop
 unfolding table
 loop-holds c = (refl, search needs, refl)
 
-mul-wp : tie.Need-mul-wp Inv-loop μ-loop
-mul-wp c = search needs
-
-element-copy-out-wp : tie.Need-element-copy-out-wp Inv-loop μ-loop
-element-copy-out-wp c = search needs
-
-add-wp : tie.Need-add-wp Inv-loop μ-loop
-add-wp c = search needs
-
-mul-wp-2 : tie.Need-mul-wp-2 Inv-loop μ-loop
-mul-wp-2 c = search needs
-
-element-copy-out-wp-2 : tie.Need-element-copy-out-wp-2 Inv-loop μ-loop
-element-copy-out-wp-2 c = search needs
-
-mul-wp-3 : tie.Need-mul-wp-3 Inv-loop μ-loop
-mul-wp-3 c = search needs
-
-array-write-wp : tie.Need-array-write-wp Inv-loop μ-loop
-array-write-wp c = search needs
-
-add-j : tie.Need-add-j Inv-loop μ-loop
-add-j c = search needs
-
-loop-less : tie.Need-loop-less Inv-loop μ-loop
-loop-less c = search needs
-
 loop-again : tie.Need-loop-again Inv-loop μ-loop
 unfolding primeAt _⊕_
 loop-again c = (search needs, search needs, table-more _ _ _ _ (search needs) refl (c .before .before .before .loop .inv .2))
@@ -63,5 +36,5 @@ returns c =
 pub primes-spec : {M : Type 1} → statement M
 primes-spec =
     tie.close
-    (tie.spec Inv-loop μ-loop loop-holds mul-wp element-copy-out-wp add-wp mul-wp-2 element-copy-out-wp-2 mul-wp-3
-    array-write-wp add-j loop-less loop-again returns)
+    (tie.spec Inv-loop μ-loop loop-holds (λ c. search needs) (λ c. search needs) (λ c. search needs) (λ c. search needs) (λ c. search needs) (λ c. search needs)
+    (λ c. search needs) (λ c. search needs) (λ c. search needs) loop-again returns)

@@ -15,12 +15,6 @@ Inv-loop out₀ at src n j₀ out j = Laid out₀ at src n out j
 abbrev μ-loop : tie.MeasureT-loop
 μ-loop out₀ at src n j₀ out j = n - j
 
-sub-smaller : tie.Need-sub-smaller Inv-loop μ-loop
-sub-smaller c = search needs
-
-smaller-requires : tie.Need-smaller-requires Inv-loop μ-loop
-smaller-requires c κs = search needs
-
 loop-holds : tie.Need-loop-holds Inv-loop μ-loop
 loop-holds c = laid-none (c .smaller .ensures)
 
@@ -29,20 +23,8 @@ long : (c : tie.At-loop Inv-loop μ-loop)
     → length (c .loop .out) ≡ length (c .before .before .before .before .before .args .out .now)
 long c = laid-length (c .loop .inv) (omega arith)
 
-shared-slice-read-out : tie.Need-shared-slice-read-out Inv-loop μ-loop
-shared-slice-read-out c = omega arith
-
-add-out : tie.Need-add-out Inv-loop μ-loop
-add-out c = omega arith
-
 slice-write-out : tie.Need-slice-write-out Inv-loop μ-loop
 slice-write-out c = omega (arith, long (c .before .before))
-
-add-j : tie.Need-add-j Inv-loop μ-loop
-add-j c = omega arith
-
-loop-less : tie.Need-loop-less Inv-loop μ-loop
-loop-less c = omega arith
 
 loop-again : tie.Need-loop-again Inv-loop μ-loop
 loop-again c = laid-more (c .before .before .loop .inv) (omega arith) refl
@@ -64,14 +46,14 @@ copy-at-spec =
     (tie.spec
     Inv-loop
     μ-loop
-    sub-smaller
-    smaller-requires
+    (λ c. search needs)
+    (λ c κs. search needs)
     loop-holds
-    shared-slice-read-out
-    add-out
+    (λ c. omega arith)
+    (λ c. omega arith)
     slice-write-out
-    add-j
-    loop-less
+    (λ c. omega arith)
+    (λ c. omega arith)
     loop-again
     same-length
     returns

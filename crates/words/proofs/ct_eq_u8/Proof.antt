@@ -5,11 +5,8 @@ use Rattle.words.proofs.Choice.{bool-bit}
 use Rattle.words.proofs.ct_eq_u8.Statement.{statement}
 use Rattle.words.proofs.ct_eq_u8.Tie as tie
 
-cast-result : tie.Need-cast-result
-cast-result c = search needs
-
 returns : tie.Need-returns
 returns c = bool-bit (eqb (c .args .a) (c .args .b))
 
 pub ct-eq-u8-spec : {M : Type 1} → statement M
-ct-eq-u8-spec = tie.close (tie.spec cast-result returns)
+ct-eq-u8-spec = tie.close (tie.spec (λ c. search needs) returns)

@@ -5,11 +5,8 @@ use Rattle.words.proofs.Choice.{bool-bit}
 use Rattle.words.proofs.ct_eq_usize.Statement.{statement}
 use Rattle.words.proofs.ct_eq_usize.Tie as tie
 
-cast-result : tie.Need-cast-result
-cast-result c = search needs
-
 returns : tie.Need-returns
 returns c = bool-bit (eqb (c .args .a) (c .args .b))
 
 pub ct-eq-usize-spec : {M : Type 1} → statement M
-ct-eq-usize-spec = tie.close (tie.spec cast-result returns)
+ct-eq-usize-spec = tie.close (tie.spec (λ c. search needs) returns)

@@ -5,11 +5,8 @@ use Rattle.words.proofs.Choice.{bool-bit}
 use Rattle.words.proofs.ct_lt_usize.Statement.{statement}
 use Rattle.words.proofs.ct_lt_usize.Tie as tie
 
-cast-result : tie.Need-cast-result
-cast-result c = search needs
-
 returns : tie.Need-returns
 returns c = bool-bit (ltb (c .args .a) (c .args .b))
 
 pub ct-lt-usize-spec : {M : Type 1} → statement M
-ct-lt-usize-spec = tie.close (tie.spec cast-result returns)
+ct-lt-usize-spec = tie.close (tie.spec (λ c. search needs) returns)

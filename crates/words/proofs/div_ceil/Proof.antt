@@ -8,15 +8,6 @@ use borrow.Author.Needs.{needs}
 use Rattle.words.proofs.div_ceil.Statement.{statement}
 use Rattle.words.proofs.div_ceil.Tie as tie
 
-rem-if2 : tie.Need-rem-if2
-rem-if2 c = search needs
-
-div-result : tie.Need-div-result
-div-result c = search needs
-
-div-result-2 : tie.Need-div-result-2
-div-result-2 c = search needs
-
 add-result : tie.Need-add-result
 add-result c =
     let a = c .before .before .args .a in
@@ -45,4 +36,4 @@ returns-3 c =
 
 pub div-ceil-spec : {M : Type 1} → statement M
 div-ceil-spec =
-    tie.close (tie.spec rem-if2 div-result div-result-2 add-result returns returns-2 returns-3)
+    tie.close (tie.spec (λ c. search needs) (λ c. search needs) (λ c. search needs) add-result returns returns-2 returns-3)

@@ -9,15 +9,6 @@ use Rattle.words.proofs.Word.{rotl-or, rotl-zero}
 use Rattle.words.proofs.rotate_left.Statement.{statement}
 use Rattle.words.proofs.rotate_left.Tie as tie
 
-shl-result : tie.Need-shl-result
-shl-result c = search needs
-
-sub-result : tie.Need-sub-result
-sub-result c = search needs
-
-shr-result : tie.Need-shr-result
-shr-result c = search needs
-
 -- the code's two shifts, by 0 too
 shifts : (x k : ℕ) → x < 2 ^ 32 → k < 32 → bitOr (x * 2 ^ k % 2 ^ 32) (x / 2 ^ ((32 - k) % 32)) ≡ x ⋘ k
 shifts x zero h b =
@@ -32,4 +23,4 @@ returns : tie.Need-returns
 returns c = shifts (c .args .x) (c .args .n % 32) (c .fits .x .fits) (omega arith)
 
 pub rotate-left-spec : {M : Type 1} → statement M
-rotate-left-spec = tie.close (tie.spec shl-result sub-result shr-result returns)
+rotate-left-spec = tie.close (tie.spec (λ c. search needs) (λ c. search needs) (λ c. search needs) returns)

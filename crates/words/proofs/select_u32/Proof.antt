@@ -4,14 +4,8 @@ use Rattle.words.proofs.Choice.{masked}
 use Rattle.words.proofs.select_u32.Statement.{statement}
 use Rattle.words.proofs.select_u32.Tie as tie
 
-cast-mask : tie.Need-cast-mask
-cast-mask c = search needs
-
-mul-mask : tie.Need-mul-mask
-mul-mask c = search needs
-
 returns : tie.Need-returns
 returns c = masked 32 (c .fits .a .fits) (c .fits .b .fits) (c .args .choice)
 
 pub select-u32-spec : {M : Type 1} → statement M
-select-u32-spec = tie.close (tie.spec cast-mask mul-mask returns)
+select-u32-spec = tie.close (tie.spec (λ c. search needs) (λ c. search needs) returns)

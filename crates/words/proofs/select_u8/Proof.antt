@@ -4,11 +4,8 @@ use Rattle.words.proofs.Choice.{masked}
 use Rattle.words.proofs.select_u8.Statement.{statement}
 use Rattle.words.proofs.select_u8.Tie as tie
 
-mul-mask : tie.Need-mul-mask
-mul-mask c = search needs
-
 returns : tie.Need-returns
 returns c = masked 8 (c .fits .a .fits) (c .fits .b .fits) (c .args .choice)
 
 pub select-u8-spec : {M : Type 1} → statement M
-select-u8-spec = tie.close (tie.spec mul-mask returns)
+select-u8-spec = tie.close (tie.spec (λ c. search needs) returns)

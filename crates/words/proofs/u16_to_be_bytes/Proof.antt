@@ -5,15 +5,9 @@ use Rattle.words.specs.Bytes.{be}
 use Rattle.words.proofs.u16_to_be_bytes.Statement.{statement}
 use Rattle.words.proofs.u16_to_be_bytes.Tie as tie
 
-cast-t4 : tie.Need-cast-t4
-cast-t4 c = search needs
-
-cast-t6 : tie.Need-cast-t6
-cast-t6 c = search needs
-
 returns : tie.Need-returns
 unfolding be
 returns c = refl
 
 pub u16-to-be-bytes-spec : {M : Type 1} → statement M
-u16-to-be-bytes-spec = tie.close (tie.spec cast-t4 cast-t6 returns)
+u16-to-be-bytes-spec = tie.close (tie.spec (λ c. search needs) (λ c. search needs) returns)

@@ -10,48 +10,6 @@ use Rattle.words.proofs.Lists.{as-table}
 use Rattle.words.proofs.u64_from_be_bytes.Statement.{statement}
 use Rattle.words.proofs.u64_from_be_bytes.Tie as tie
 
-array-read-t7 : tie.Need-array-read-t7
-array-read-t7 c = search needs
-
-array-read-t10 : tie.Need-array-read-t10
-array-read-t10 c = search needs
-
-array-read-t13 : tie.Need-array-read-t13
-array-read-t13 c = search needs
-
-array-read-t16 : tie.Need-array-read-t16
-array-read-t16 c = search needs
-
-u32-from-be-bytes-requires : tie.Need-u32-from-be-bytes-requires
-u32-from-be-bytes-requires c κs = search needs
-
-array-read-t7-2 : tie.Need-array-read-t7-2
-array-read-t7-2 c = search needs
-
-array-read-t10-2 : tie.Need-array-read-t10-2
-array-read-t10-2 c = search needs
-
-array-read-t16-2 : tie.Need-array-read-t16-2
-array-read-t16-2 c = search needs
-
-array-read-t13-2 : tie.Need-array-read-t13-2
-array-read-t13-2 c = search needs
-
-u32-from-be-bytes-requires-2 : tie.Need-u32-from-be-bytes-requires-2
-u32-from-be-bytes-requires-2 c κs = search needs
-
-cast-result : tie.Need-cast-result
-cast-result c = search needs
-
-mul-result : tie.Need-mul-result
-mul-result c = search needs
-
-cast-result-2 : tie.Need-cast-result-2
-cast-result-2 c = search needs
-
-add-result : tie.Need-add-result
-add-result c = search needs
-
 returns : tie.Need-returns
 unfolding table
 returns c =
@@ -64,18 +22,18 @@ pub u64-from-be-bytes-spec : {M : Type 1} → statement M
 u64-from-be-bytes-spec =
     tie.close
     (tie.spec
-    array-read-t7
-    array-read-t10
-    array-read-t13
-    array-read-t16
-    u32-from-be-bytes-requires
-    array-read-t7-2
-    array-read-t10-2
-    array-read-t16-2
-    array-read-t13-2
-    u32-from-be-bytes-requires-2
-    cast-result
-    mul-result
-    cast-result-2
-    add-result
+    (λ c. search needs)
+    (λ c. search needs)
+    (λ c. search needs)
+    (λ c. search needs)
+    (λ c κs. search needs)
+    (λ c. search needs)
+    (λ c. search needs)
+    (λ c. search needs)
+    (λ c. search needs)
+    (λ c κs. search needs)
+    (λ c. search needs)
+    (λ c. search needs)
+    (λ c. search needs)
+    (λ c. search needs)
     returns)
