@@ -45,13 +45,24 @@ fn our_sm3(data: &mut [u8]) -> [u8; 32] {
     digest
 }
 
-fn our_hmac(data: &mut [u8]) -> [u8; 32] {
+fn keyed_hmac(key: &[u8], data: &[u8]) -> [u8; 32] {
     let mut mac = [0; 32];
     let answer = unsafe {
-        noustrel_hmac_sm3(KEY.as_ptr(), 16, data.as_ptr(), data.len(), mac.as_mut_ptr(), 32)
+        noustrel_hmac_sm3(
+            key.as_ptr(),
+            key.len(),
+            data.as_ptr(),
+            data.len(),
+            mac.as_mut_ptr(),
+            32,
+        )
     };
     assert_eq!(answer, 0);
     mac
+}
+
+fn our_hmac(data: &mut [u8]) -> [u8; 32] {
+    keyed_hmac(&KEY, data)
 }
 
 /// The last 32 bytes, or what there is, so that two ciphers can be compared.
@@ -96,14 +107,24 @@ fn seconds(work: Work, calls: usize, data: &mut [u8]) -> f64 {
     start.elapsed().as_secs_f64() / calls as f64
 }
 
+fn bytes(size: usize) -> Vec<u8> {
+    (0..size).map(|i| (i * 7 + 3) as u8).collect()
+}
+
+/// What is timed is the same work: every length to 300, and the one to be timed.
+fn agree(works: &[Work], size: usize) {
+    for size in (0..=300).chain([size]) {
+        let first = works[0](&mut bytes(size));
+        for work in works {
+            assert_eq!(work(&mut bytes(size)), first, "two of them differ at {size} bytes");
+        }
+    }
+}
+
 /// The quickest time of each, in rounds that take turns.
 fn times(works: &[Work], size: usize) -> Vec<f64> {
-    let fresh: Vec<u8> = (0..size).map(|i| (i * 7 + 3) as u8).collect();
-    let first = works[0](&mut fresh.clone());
-    for work in works {
-        assert_eq!(work(&mut fresh.clone()), first, "two of them differ at {size} bytes");
-    }
-    let mut data = fresh;
+    agree(works, size);
+    let mut data = bytes(size);
     let calls: Vec<usize> = works
         .iter()
         .map(|work| (ROUND / seconds(*work, 1, &mut data)).ceil().min(1e5) as usize)
@@ -118,6 +139,10 @@ fn times(works: &[Work], size: usize) -> Vec<f64> {
 }
 
 fn main() {
+    for key in 0..=200 {
+        let (key, data) = (bytes(key), bytes(100));
+        assert_eq!(keyed_hmac(&key, &data), hmac::hmac_sm3(&key, &data));
+    }
     println!("work bytes ours rust ratio (MB/s)");
     let hashes: [(&str, [Work; 2]); 2] = [
         ("sm3", [our_sm3, |data| sm3::hash(data)]),

@@ -1,0 +1,34 @@
+-- `sm4_vectors::one_block` is safe: a remainder of 129 is within 128 bytes. Assumes nothing.
+use mathlib.Core.Path.{sym}
+use native.Mathlib.Omega.{arith}
+use borrow.Author.Needs.{needs}
+use lib.Seq.{length-take-le}
+use Rattle.sm4_vectors.proofs.one_block.Statement.{statement}
+use Rattle.sm4_vectors.proofs.one_block.Tie as tie
+
+slice-aggregate-asked : tie.Need-slice-aggregate-asked
+slice-aggregate-asked c = sym (length-take-le _ _ (omega arith))
+
+slice-aggregate-asked-2 : tie.Need-slice-aggregate-asked-2
+slice-aggregate-asked-2 c = sym (length-take-le _ _ (omega arith))
+
+pub one-block-spec : {M : Type 1} → statement M
+one-block-spec =
+    tie.close
+    (tie.spec
+    (λ c κs. search needs)
+    (λ c κs. search needs)
+    (λ c. search needs)
+    (λ c κs. search needs)
+    (λ c. search needs)
+    (λ c κs. search needs)
+    (λ c. search needs)
+    (λ c κs. search needs)
+    (λ c. search needs)
+    (λ c κs. search needs)
+    (λ c. search needs)
+    slice-aggregate-asked
+    (λ c. search needs)
+    slice-aggregate-asked-2
+    (λ c κs. search needs)
+    (λ c. search needs))
