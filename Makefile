@@ -12,7 +12,7 @@ all: build/libborder.a
 help:
 	@echo 'make          build/libborder.a, the library for C and Rust on x86-64'
 	@echo 'make test     the gate: the form of the statements, the layout, every proof'
-	@echo 'make vectors  prove and run the program of published vectors'
+	@echo 'make vectors  prove and run the programs of published vectors'
 	@echo 'make oracle   build the Rust, unchanged, behind the line protocol, and try it (RUST_SRC=DIR)'
 	@echo 'make bench    time the code against the Rust, in one run'
 	@echo 'make clean    remove build/ and target/'
@@ -30,11 +30,11 @@ build/libborder.a: FORCE
 	@mkdir -p build
 	@cmp -s target/staticlib/libborder.a $@ || cp target/staticlib/libborder.a $@
 
+PROGRAMS = vectors hmac_vectors sm4_vectors key_schedule_vectors
 vectors:
-	rt check vectors
+	rt check $(PROGRAMS)
 	@mkdir -p build
-	cp target/bin/vectors build/vectors
-	tools/run_program vectors
+	@for program in $(PROGRAMS); do cp target/bin/$$program build/ && echo "== $$program" && tools/run_program $$program || exit 1; done
 
 oracle: build/noustrel-oracle
 	oracle/check build/noustrel-oracle

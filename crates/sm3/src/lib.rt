@@ -109,10 +109,10 @@ fn put_count(block: [u8; 64], total: u64) -> [u8; 64]
 }
 
 // The words' bytes, each word's highest first.
-fn digest_of(v: [u32; 8]) -> [u8; 32]
+fn digest_of(v: [u32; 8]) -> [u8; DIGEST_SIZE]
     ensures { λ r. ⌜ r ≡ bytesOf v ⌝ }
 {
-    let mut out = [0u8; 32];
+    let mut out = [0u8; DIGEST_SIZE];
     for i in 0..8 {
         let bytes = words::u32_to_be_bytes(v[i]);
         words::copy_at(&mut out, i * 4, &bytes);
