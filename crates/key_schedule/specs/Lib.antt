@@ -1,0 +1,4 @@
+pub mod Promise
+pub mod Rest
+pub mod Sizes
+pub mod Standard
