@@ -1,4 +1,5 @@
--- GB/T 32905-2016, annex A: the two messages and what is printed for them. Assumes nothing.
+-- GB/T 32905-2016, annex A: the two messages and their hash values. The expanded words of A.1 are those of a separate
+-- computation; they were not held beside the printed annex. Assumes nothing.
 use mathlib.Core.List.{List, [], _∷_}
 use mathlib.Core.Path.{_≡_}
 use Prim.Native.Nat.{ℕ}
