@@ -30,7 +30,7 @@ build/libborder.a: FORCE
 	@mkdir -p build
 	@cmp -s target/staticlib/libborder.a $@ || cp target/staticlib/libborder.a $@
 
-PROGRAMS = vectors hmac_vectors sm4_vectors key_schedule_vectors record_vectors
+PROGRAMS = vectors hmac_vectors sm4_vectors sm4_published key_schedule_vectors record_vectors
 vectors:
 	rt check $(PROGRAMS)
 	@mkdir -p build

@@ -92,10 +92,10 @@ digest-block x e = length-append x (0x80 ∷ (replicate 23 0 ++ count 96)) ∙ o
 
 module _ (K m : List ℕ) where
   -- the key's blocks
-  pub inner-block : List ℕ
+  unfoldable pub inner-block : List ℕ
   inner-block = xorEach (K′ SM3 K) ipad
 
-  pub outer-block : List ℕ
+  unfoldable pub outer-block : List ℕ
   outer-block = xorEach (K′ SM3 K) opad
 
   length-inner : length inner-block ≡ 64

@@ -68,7 +68,7 @@ fn with_block(block: [u8; 64]) -> Sm3
 }
 
 // 1 where all 32 bytes agree, else 0: every byte is looked at, and their differences are gathered.
-fn ct_eq(a: [u8; 32], b: [u8; 32]) -> u8
+pub fn ct_eq(a: [u8; 32], b: [u8; 32]) -> u8
     ensures { λ r. ⌜ r ≡ bit (agree a b) ⌝ }
 {
     let mut differ: u8 = 0;

@@ -109,7 +109,7 @@ fn put_count(block: [u8; 64], total: u64) -> [u8; 64]
 }
 
 // The words' bytes, each word's highest first.
-fn digest_of(v: [u32; 8]) -> [u8; DIGEST_SIZE]
+pub fn digest_of(v: [u32; 8]) -> [u8; DIGEST_SIZE]
     ensures { λ r. ⌜ r ≡ bytesOf v ⌝ }
 {
     let mut out = [0u8; DIGEST_SIZE];

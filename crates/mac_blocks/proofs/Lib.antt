@@ -1,0 +1,4 @@
+pub mod Byte
+pub mod Choice
+pub mod Outer
+pub mod Schedule

@@ -1,0 +1,4 @@
+pub mod Gather
+pub mod Masks
+mod Reach
+mod Report

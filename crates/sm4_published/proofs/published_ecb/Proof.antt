@@ -1,0 +1,35 @@
+-- `sm4_published::published_ecb` is safe: a remainder of 129 is within 128 bytes. Assumes nothing.
+use mathlib.Core.Path.{sym}
+use native.Mathlib.Omega.{arith}
+use borrow.Author.Needs.{needs}
+use lib.Seq.{length-take-le}
+use Rattle.sm4_published.proofs.published_ecb.Statement.{statement}
+use Rattle.sm4_published.proofs.published_ecb.Tie as tie
+
+slice-aggregate-ecb : tie.Need-slice-aggregate-ecb
+slice-aggregate-ecb c = sym (length-take-le _ _ (omega arith))
+
+slice-aggregate-ecb-2 : tie.Need-slice-aggregate-ecb-2
+slice-aggregate-ecb-2 c = sym (length-take-le _ _ (omega arith))
+
+pub published-ecb-spec : {M : Type 1} → statement M
+published-ecb-spec =
+    tie.close
+    (tie.spec
+    (λ c κs. search needs)
+    (λ c κs. search needs)
+    (λ c κs. search needs)
+    (λ c κs. search needs)
+    (λ c κs. search needs)
+    (λ c. search needs)
+    (λ c κs. search needs)
+    (λ c. search needs)
+    slice-aggregate-ecb
+    (λ c κs. search needs)
+    (λ c κs. search needs)
+    (λ c. search needs)
+    (λ c κs. search needs)
+    (λ c. search needs)
+    slice-aggregate-ecb-2
+    (λ c κs. search needs)
+    (λ c. search needs))

@@ -1,0 +1,4 @@
+pub mod Promise
+pub mod State
+pub mod Step
+pub mod Work

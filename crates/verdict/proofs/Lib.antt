@@ -1,0 +1,4 @@
+pub mod Cleared
+pub mod Extracted
+pub mod OneOutcome
+mod Over
