@@ -1,0 +1,10 @@
+pub mod Closed
+pub mod Fields
+pub mod Fits
+pub mod OneOutcome
+pub mod Output
+pub mod Place
+pub mod Refused
+pub mod Run
+pub mod Tag
+pub mod Turn

@@ -1,0 +1,4 @@
+pub mod Closed
+pub mod Deprotected
+pub mod Given
+pub mod Promise

@@ -1,0 +1,4 @@
+pub mod Lending
+pub mod OneOutcome
+pub mod Rows
+pub mod Size
