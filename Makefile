@@ -22,6 +22,7 @@ test:
 	@kit="$$(rt version)"; [ "$$kit" = "$(KIT)" ] || echo "warning: this is '$$kit'; '$(KIT)' was used" >&2
 	tools/statements_test
 	tools/statements
+	tools/calls --check
 	rt fmt --check
 	rt ci
 

@@ -2,20 +2,22 @@
 use mathlib.Core.Bool.{Bool, true, false, cond}
 use mathlib.Core.List.{List, _++_}
 use mathlib.Core.Path.{_≡_, sym, ap, _∙_}
-use Prim.Native.Nat.{ℕ, suc, _+_, _-_, _*_, _≤_, _<_}
+use Prim.Native.Nat.{ℕ, suc, _+_, _*_, _≤_, _<_}
 use native.Mathlib.Omega.{arith}
 use borrow.Author.Tests.{lt-ltb, le-ltb}
 use lib.Dec.{ltb}
-use lib.ListN.{length, take, drop, replicate, length-append, length-take, length-drop, length-replicate}
+use lib.ListN.{length, take, drop, length-append, length-take, length-drop}
 use lib.Seq.{take-all, take-at, take-append-le, drop-at, drop-append-le}
 use Rattle.words.specs.Lists.{join, put}
 use Rattle.words.proofs.Lists.{take-join, put-join}
 use Rattle.record.specs.Opened.{held, textIn, macIn}
 use Rattle.sizes.specs.Sizes.{blocks, totalSteps}
+use Rattle.verdict.proofs.Cleared.{length-cleared}
 use Rattle.opening.specs.Closed.{written, outAfter}
 use Rattle.opening.specs.Deprotected.{bodyAfter}
-use Rattle.opening.specs.Given.{Given, size, decrypted, accepted}
-use Rattle.opening.proofs.Fits.{Fits, block-of, sized-block, decrypted-blocks, length-decrypted, held-fits, length-text}
+use Rattle.opening.specs.Given.{Given, size, decrypted, lengthIn}
+use Rattle.opening.proofs.Fits.{Fits, block-of, sized-block, decrypted-blocks, length-decrypted, held-fits}
+use Rattle.opening.proofs.Tag.{cleared-at-end}
 
 -- before step T
 pub out-before : (g : Given) (o : List ℕ) (k : ℕ) → k < totalSteps (size g)
@@ -85,14 +87,7 @@ module _ (g : Given) {o : List ℕ} (f : Fits g o) where
 
   -- the body's place holds n bytes
   length-after : length (bodyAfter g) ≡ size g
-  unfolding bodyAfter
-  length-after = by (accepted g)
-    where
-      by : (t : Bool) → length (cond t (textIn (decrypted g) ++ replicate (size g - held (decrypted g)) 0) (replicate (size g) 0)) ≡ size g
-      by true =
-          length-append (textIn (decrypted g)) (replicate (size g - held (decrypted g)) 0)
-          ∙ omega (arith, length-text g f, length-replicate {A = ℕ} (size g - held (decrypted g)) 0, held-fits g f)
-      by false = length-replicate (size g) 0
+  length-after = ap length (sym (cleared-at-end g f)) ∙ length-cleared (lengthIn g) (decrypted g) ∙ length-decrypted g f
 
   -- the length stays
   pub length-out : (k : ℕ) → length (outAfter g o k) ≡ length o

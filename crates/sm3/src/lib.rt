@@ -29,6 +29,7 @@ pub const BLOCK_SIZE: usize = 64;
 
 // A running hash: the words after the whole blocks, the buffer with the bytes since, how many of its bytes those are,
 // and the count of all bytes, modulo 2^64.
+#[repr(C)]
 pub struct Sm3 {
     pub state: [u32; 8],
     pub buffer: [u8; 64],
