@@ -1,10 +1,35 @@
-// The C-callable functions: numbers and byte slices, a slice as a pointer and a length. A digest or MAC of another size
-// than its own is answer 9, and what was lent stays as found.
+// The C-callable functions: numbers and byte slices, a slice as a pointer and a length. A cipher key, record MAC key, IV, block,
+// digest or MAC of another size than its own is answer 9, before all else, and what was lent stays as found; reported numbers
+// are written on every call, 0 with a refusal (but T with answer 6).
+ghost use mathlib.Core.Bool.{_&&_};
 ghost use mathlib.Core.Path.{_≡_};
-ghost use Rattle.border.specs.Border.{answerFor, sized, filled};
-ghost use Rattle.border.specs.Promise.{Hashed, Maced};
+ghost use lib.ListN.{length};
+ghost use Rattle.border.specs.Border.{
+  has,
+  answerFor,
+  sized,
+  filled,
+  keySizes,
+  keysFrom,
+  blockSizes,
+  roleOf,
+};
+ghost use Rattle.border.specs.Promise.{
+  Hashed,
+  Maced,
+  SealedFor,
+  OpenedFor,
+  Enciphered,
+  Deciphered,
+  MasterSecretFor,
+  KeyBlockFor,
+  FinishedFor,
+};
 use answers::DONE;
 use answers::WRONG_SIZE;
+use key_schedule::TlcpRole;
+use record::RecordKeysCbc;
+use sm4::Sm4Cipher;
 
 // The bytes into out, if it has room for just them.
 fn put_digest(out: &mut [u8], bytes: [u8; 32]) -> u32
@@ -36,4 +61,200 @@ pub extern "C" fn noustrel_hmac_sm3(key: &[u8], message: &[u8], mac: &mut [u8]) 
     let tag = hmac::hmac_sm3(key, message);
     let bytes = tag.bytes;
     put_digest(mac, bytes)
+}
+
+// Sixteen bytes as an array.
+fn array_16(x: &[u8]) -> [u8; 16]
+    requires { ⌜ length (now x) ≡ 16 ⌝ }
+    ensures { λ r. ⌜ r ≡ now (x .entry) ⌝ }
+{
+    let mut a = [0u8; 16];
+    words::copy_at(&mut a, 0, x);
+    a
+}
+
+// Thirty-two bytes as an array.
+fn array_32(x: &[u8]) -> [u8; 32]
+    requires { ⌜ length (now x) ≡ 32 ⌝ }
+    ensures { λ r. ⌜ r ≡ now (x .entry) ⌝ }
+{
+    let mut a = [0u8; 32];
+    words::copy_at(&mut a, 0, x);
+    a
+}
+
+// Whether the keys of a record have their sizes.
+fn key_sizes(mac_key: &[u8], enc_key: &[u8]) -> bool
+    ensures { λ r. ⌜ r ≡ keySizes (now («mac_key» .entry)) (now («enc_key» .entry)) ⌝ }
+{
+    mac_key.len() == record::MAC_LEN && enc_key.len() == sm4::KEY_SIZE
+}
+
+// And the IV.
+fn seal_sizes(mac_key: &[u8], enc_key: &[u8], iv: &[u8]) -> bool
+    ensures { λ r.
+        ⌜ r ≡ (keySizes (now («mac_key» .entry)) (now («enc_key» .entry)) && has 16 (now (iv .entry))) ⌝ }
+{
+    key_sizes(mac_key, enc_key) && iv.len() == record::IV_LEN
+}
+
+// The keys of a record, as arrays.
+fn keys_from(mac_key: &[u8], enc_key: &[u8]) -> RecordKeysCbc
+    requires { ⌜ (length (now «mac_key») ≡ 32) × (length (now «enc_key») ≡ 16) ⌝ }
+    ensures { λ r. ⌜ r ≡ keysFrom (now («mac_key» .entry)) (now («enc_key» .entry)) ⌝ }
+{
+    let mac = array_32(mac_key);
+    let enc = array_16(enc_key);
+    RecordKeysCbc {
+        mac_key: mac,
+        enc_key: enc,
+    }
+}
+
+// The sealed record of a text into the front of out, its length into length. The version goes as one number, high byte first.
+#[no_mangle]
+pub extern "C" fn noustrel_seal(
+    mac_key: &[u8],
+    enc_key: &[u8],
+    number: u64,
+    content_type: u8,
+    version: u16,
+    iv: &[u8],
+    text: &[u8],
+    out: &mut [u8],
+    length: &mut usize,
+) -> u32
+    ensures { λ r.
+        ⌜ SealedFor (now («mac_key» .entry)) (now («enc_key» .entry)) number «content_type» version (now (iv .entry)) (now (text .entry)) (now (out .entry)) r (now (out .exit)) (now (length .exit)) ⌝ }
+{
+    if !seal_sizes(mac_key, enc_key, iv) {
+        *length = 0;
+        return WRONG_SIZE as u32;
+    }
+    let keys = keys_from(mac_key, enc_key);
+    let high_first = words::u16_to_be_bytes(version);
+    let start = array_16(iv);
+    let sealed = record::protect_cbc(keys, number, content_type, high_first, start, text, out);
+    *length = sealed.length;
+    sealed.answer as u32
+}
+
+// The record's text into the front of out, its length into length, the steps made into count.
+#[no_mangle]
+pub extern "C" fn noustrel_open(
+    mac_key: &[u8],
+    enc_key: &[u8],
+    number: u64,
+    content_type: u8,
+    version: u16,
+    record: &[u8],
+    out: &mut [u8],
+    length: &mut usize,
+    count: &mut usize,
+) -> u32
+    ensures { λ r.
+        ⌜ OpenedFor (now («mac_key» .entry)) (now («enc_key» .entry)) number «content_type» version (now («record» .entry)) (now (out .entry)) r (now (out .exit)) (now (length .exit)) (now (count .exit)) ⌝ }
+{
+    if !key_sizes(mac_key, enc_key) {
+        *length = 0;
+        *count = 0;
+        return WRONG_SIZE as u32;
+    }
+    let keys = keys_from(mac_key, enc_key);
+    let high_first = words::u16_to_be_bytes(version);
+    let opened = opening::deprotect_cbc(keys, number, content_type, high_first, record, out);
+    *length = opened.length;
+    *count = opened.count;
+    opened.answer as u32
+}
+
+// Whether key, block and output have a block's size.
+fn block_sizes(key: &[u8], block: &[u8], out: &[u8]) -> bool
+    ensures { λ r. ⌜ r ≡ blockSizes (now (key .entry)) (now (block .entry)) (now (out .entry)) ⌝ }
+{
+    key.len() == sm4::KEY_SIZE && (block.len() == sm4::BLOCK_SIZE && out.len() == sm4::BLOCK_SIZE)
+}
+
+// One SM4 block enciphered.
+#[no_mangle]
+pub extern "C" fn noustrel_sm4_encrypt_block(key: &[u8], block: &[u8], out: &mut [u8]) -> u32
+    ensures { λ r.
+        ⌜ Enciphered (now (key .entry)) (now (block .entry)) (now (out .entry)) r (now (out .exit)) ⌝ }
+{
+    if !block_sizes(key, block, out) {
+        return WRONG_SIZE as u32;
+    }
+    let cipher = Sm4Cipher::new(array_16(key));
+    let bytes = cipher.encrypt_block(array_16(block));
+    words::copy_at(out, 0, &bytes);
+    DONE as u32
+}
+
+// One SM4 block deciphered.
+#[no_mangle]
+pub extern "C" fn noustrel_sm4_decrypt_block(key: &[u8], block: &[u8], out: &mut [u8]) -> u32
+    ensures { λ r.
+        ⌜ Deciphered (now (key .entry)) (now (block .entry)) (now (out .entry)) r (now (out .exit)) ⌝ }
+{
+    if !block_sizes(key, block, out) {
+        return WRONG_SIZE as u32;
+    }
+    let cipher = Sm4Cipher::new(array_16(key));
+    let bytes = cipher.decrypt_block(array_16(block));
+    words::copy_at(out, 0, &bytes);
+    DONE as u32
+}
+
+// The master secret of 48 bytes; the sizes are the key schedule's own.
+#[no_mangle]
+pub extern "C" fn noustrel_master_secret(
+    pre_master: &[u8],
+    client_random: &[u8],
+    server_random: &[u8],
+    out: &mut [u8],
+) -> u32
+    ensures { λ r.
+        ⌜ MasterSecretFor (now («pre_master» .entry)) (now («client_random» .entry)) (now («server_random» .entry)) (now (out .entry)) r (now (out .exit)) ⌝ }
+{
+    key_schedule::derive_master_secret(pre_master, client_random, server_random, out) as u32
+}
+
+// The key block, as long as out.
+#[no_mangle]
+pub extern "C" fn noustrel_key_block(
+    master_secret: &[u8],
+    client_random: &[u8],
+    server_random: &[u8],
+    out: &mut [u8],
+) -> u32
+    ensures { λ r.
+        ⌜ KeyBlockFor (now («master_secret» .entry)) (now («client_random» .entry)) (now («server_random» .entry)) (now (out .entry)) r (now (out .exit)) ⌝ }
+{
+    key_schedule::derive_key_block(master_secret, client_random, server_random, out) as u32
+}
+
+// 0 is the client, any other number the server.
+fn role_of(role: u32) -> TlcpRole
+    ensures { λ r. ⌜ r ≡ roleOf role ⌝ }
+{
+    if role == 0 {
+        TlcpRole::Client
+    } else {
+        TlcpRole::Server
+    }
+}
+
+// What a Finished message of the role carries, 12 bytes.
+#[no_mangle]
+pub extern "C" fn noustrel_finished(
+    master_secret: &[u8],
+    role: u32,
+    transcript_hash: &[u8],
+    out: &mut [u8],
+) -> u32
+    ensures { λ r.
+        ⌜ FinishedFor (now («master_secret» .entry)) role (now («transcript_hash» .entry)) (now (out .entry)) r (now (out .exit)) ⌝ }
+{
+    let side = role_of(role);
+    key_schedule::finished_verify_data(master_secret, side, transcript_hash, out) as u32
 }

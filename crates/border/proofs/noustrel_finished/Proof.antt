@@ -1,0 +1,23 @@
+-- `border::noustrel_finished` meets its contract: it is `finished_verify_data` of the role that the number names. Assumes
+-- nothing.
+use mathlib.Core.Bool.{cond}
+use mathlib.Core.Path.{ap, _∙_}
+use borrow.Author.Needs.{needs}
+use Rattle.key_schedule.specs.declared.TlcpRole.{TlcpRole}
+use Rattle.key_schedule.specs.Sizes.{finishedSizes}
+use Rattle.key_schedule.specs.Standard.{finished}
+use Rattle.border.specs.Border.{answerFor}
+use Rattle.border.proofs.noustrel_finished.Statement.{statement}
+use Rattle.border.proofs.noustrel_finished.Tie as tie
+
+returns : tie.Need-returns
+unfolding answerFor
+returns c =
+    let called = c .before .before in
+    let p = called .finished-verify-data .ensures in
+    let named = called .before .before in
+    record { result = p .result; output = rw (← named .role-of .ensures) (p .output) }
+
+pub noustrel-finished-spec : {M : Type 1} → statement M
+noustrel-finished-spec =
+    tie.close (tie.spec (λ c κs. search needs) (λ c κs. search needs) (λ c. search needs) (λ c. search needs) returns)

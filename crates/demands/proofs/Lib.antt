@@ -1,0 +1,12 @@
+pub mod Demand2
+pub mod Demand3
+pub mod Figures
+pub mod Machine
+pub mod OneCall
+pub mod Outcomes
+pub mod Parts
+pub mod Reached
+pub mod Rushes
+pub mod StandInOpeners
+pub mod StandInSteppers
+pub mod Stepping

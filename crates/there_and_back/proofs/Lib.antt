@@ -1,0 +1,3 @@
+mod ArrayBytes
+mod Back
+pub mod OneOutcome
