@@ -5,7 +5,7 @@ RUST_SRC = ../shared/docs/src
 MAKEFLAGS += --no-print-directory
 CARGO = cd build/oracle && cargo build -q --release --offline --target-dir target
 
-.PHONY: all test vectors oracle bench clean help workspace FORCE
+.PHONY: all test vectors lengths oracle port differential differential-long teeth bench clean help workspace native FORCE
 
 all: build/libborder.a
 
@@ -13,6 +13,10 @@ help:
 	@echo 'make          build/libborder.a, the library for C and Rust on x86-64'
 	@echo 'make test     the gate: the form of the statements, the layout, every proof'
 	@echo 'make vectors  prove and run the programs of published vectors'
+	@echo 'make lengths  prove the program lengths, run it and try its edges'
+	@echo 'make port     build/port: the library behind the line protocol'
+	@echo 'make differential       compare the Rust, the port and a model (a few thousand cases); -long: a million'
+	@echo 'make teeth    the Rust with errors that look right, which the comparison must catch'
 	@echo 'make oracle   build the Rust, unchanged, behind the line protocol, and try it (RUST_SRC=DIR)'
 	@echo 'make bench    time the code against the Rust, in one run'
 	@echo 'make clean    remove build/ and target/'
@@ -37,6 +41,14 @@ vectors:
 	@mkdir -p build
 	@for program in $(PROGRAMS); do cp target/bin/$$program build/ && echo "== $$program" && tools/run_program $$program || exit 1; done
 
+# The program of the scope's worked example, and its edges.
+lengths:
+	rt check lengths
+	@mkdir -p build
+	cp target/bin/lengths build/
+	tools/run_program lengths | cmp - crates/lengths/stdout
+	tools/lengths_test
+
 oracle: build/noustrel-oracle
 	oracle/check build/noustrel-oracle
 
@@ -44,13 +56,29 @@ build/noustrel-oracle: workspace
 	$(CARGO) -p noustrel-oracle
 	cp build/oracle/target/release/noustrel-oracle $@
 
-# Elsewhere than on x86-64 the same LLVM modules, compiled for the machine at hand, are timed.
-TIMED = border sm4_timing
-bench: workspace
+# The libraries for the machine at hand: elsewhere than on x86-64 the same LLVM modules, compiled for it.
+NATIVE = border sm4_timing
+native:
 	@mkdir -p build/native
-	@for crate in $(TIMED); do \
+	@for crate in $(NATIVE); do \
 	    if [ "$$(uname -m)" = x86_64 ]; then rt staticlib $$crate && cp target/staticlib/lib$$crate.a build/native/; \
 	    else bench/native $$crate build/native/lib$$crate.a; fi || exit 1; done
+
+# The port behind the line protocol, and the comparison with the Rust and the model.
+port: native
+	$(CC) -O2 -Wall -Wextra -Iinclude differential/port.c build/native/libborder.a -o build/port
+
+differential: oracle port
+	differential/run build/noustrel-oracle build/port
+
+differential-long: oracle port
+	differential/run --long build/noustrel-oracle build/port
+
+# The Rust with an error that looks right must be caught.
+teeth: port
+	differential/teeth $(RUST_SRC) build/port build/teeth
+
+bench: workspace native
 	@$(CC) -O3 -c bench/scan.c -o build/native/scan.o && ar crs build/native/libscan.a build/native/scan.o
 	NOUSTREL_LIB="$$PWD/build/native" && export NOUSTREL_LIB && $(CARGO) -p noustrel-bench
 	build/oracle/target/release/noustrel-bench

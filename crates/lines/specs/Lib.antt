@@ -1,0 +1,4 @@
+pub mod Hexadecimal
+pub mod Input
+pub mod Reading
+pub mod Judgement
