@@ -5,12 +5,15 @@ RUST_SRC = ../shared/docs/src
 MAKEFLAGS += --no-print-directory
 CARGO = cd build/oracle && cargo build -q --release --offline --target-dir target
 
-.PHONY: all test vectors lengths oracle port differential differential-long teeth bench clean help workspace native FORCE
+.PHONY: all test demo header wrapper vectors lengths oracle port differential differential-long teeth bench ct clean help workspace native FORCE
 
 all: build/libborder.a
 
 help:
+	@echo 'make demo     a first walk: keys, a note in records, refusals, a long padding'
 	@echo 'make          build/libborder.a, the library for C and Rust on x86-64'
+	@echo 'make header   compare the C header and the Rust wrapper with the source'
+	@echo 'make wrapper  test the safe Rust wrapper over the library'
 	@echo 'make test     the gate: the form of the statements, the layout, every proof'
 	@echo 'make vectors  prove and run the programs of published vectors'
 	@echo 'make lengths  prove the program lengths, run it and try its edges'
@@ -19,6 +22,7 @@ help:
 	@echo 'make teeth    the Rust with errors that look right, which the comparison must catch'
 	@echo 'make oracle   build the Rust, unchanged, behind the line protocol, and try it (RUST_SRC=DIR)'
 	@echo 'make bench    time the code against the Rust, in one run'
+	@echo 'make ct       valgrind over the library: no jump and no address by a secret'
 	@echo 'make clean    remove build/ and target/'
 
 # Nothing may come after rt ci: its last line is the last of the run.
@@ -27,6 +31,8 @@ test:
 	tools/statements_test
 	tools/statements
 	tools/calls --check
+	tools/promises
+	tools/header_check
 	rt fmt --check
 	rt ci
 
@@ -35,7 +41,19 @@ build/libborder.a: FORCE
 	@mkdir -p build
 	@cmp -s target/staticlib/libborder.a $@ || cp target/staticlib/libborder.a $@
 
-PROGRAMS = vectors hmac_vectors sm4_vectors sm4_published key_schedule_vectors record_vectors
+# C and Rust are told what the source says.
+header:
+	tools/header_check_test
+	tools/header_check
+
+demo: native
+	$(CC) -std=c99 -Wall -Wextra -O2 -Iinclude examples/demo.c build/native/libborder.a -o build/demo
+	build/demo
+
+wrapper: native
+	folder="$$PWD/build/native" && cd rust && NOUSTREL_LIB="$$folder" cargo test -q --offline --target-dir ../build/rust
+
+PROGRAMS = vectors hmac_vectors sm4_vectors sm4_published key_schedule_vectors record_vectors step_vectors opening_vectors
 vectors:
 	rt check $(PROGRAMS)
 	@mkdir -p build
@@ -57,7 +75,7 @@ build/noustrel-oracle: workspace
 	cp build/oracle/target/release/noustrel-oracle $@
 
 # The libraries for the machine at hand: elsewhere than on x86-64 the same LLVM modules, compiled for it.
-NATIVE = border sm4_timing
+NATIVE = border
 native:
 	@mkdir -p build/native
 	@for crate in $(NATIVE); do \
@@ -78,10 +96,15 @@ differential-long: oracle port
 teeth: port
 	differential/teeth $(RUST_SRC) build/port build/teeth
 
+bench: NATIVE = border sm4_timing
 bench: workspace native
 	@$(CC) -O3 -c bench/scan.c -o build/native/scan.o && ar crs build/native/libscan.a build/native/scan.o
 	NOUSTREL_LIB="$$PWD/build/native" && export NOUSTREL_LIB && $(CARGO) -p noustrel-bench
 	build/oracle/target/release/noustrel-bench
+
+# What is claimed of the machine code, for this compiler's output: docs/BENCHMARKS.md.
+ct: native
+	ct/run build
 
 workspace:
 	oracle/prepare $(RUST_SRC) build

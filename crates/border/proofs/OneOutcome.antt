@@ -2,7 +2,9 @@
 use mathlib.Core.List.{List}
 use mathlib.Core.Path.{_≡_, sym, _∙_}
 use Prim.Native.Nat.{ℕ}
+use Rattle.sm3.specs.declared.Sm3.{Sm3}
 use Rattle.border.specs.Promise.{Hashed, Maced, SealedFor, OpenedFor, Enciphered, Deciphered, MasterSecretFor, KeyBlockFor, FinishedFor}
+use Rattle.border.specs.Promise.{StartedFor, TakenFor, DigestedFor}
 
 pub Hashed-one-outcome : {message out : List ℕ} {a b : ℕ} {x y : List ℕ}
     → Hashed message out a x → Hashed message out b y → (a ≡ b) × (x ≡ y)
@@ -42,3 +44,14 @@ KeyBlockFor-one-outcome p q = (p .result ∙ sym (q .result), p .output ∙ sym 
 pub FinishedFor-one-outcome : {master : List ℕ} {role : ℕ} {transcript out : List ℕ} {a b : ℕ} {x y : List ℕ}
     → FinishedFor master role transcript out a x → FinishedFor master role transcript out b y → (a ≡ b) × (x ≡ y)
 FinishedFor-one-outcome p q = (p .result ∙ sym (q .result), p .output ∙ sym (q .output))
+
+pub StartedFor-one-outcome : {h₁ h₂ : Sm3} → StartedFor h₁ → StartedFor h₂ → h₁ ≡ h₂
+StartedFor-one-outcome p q = p .state ∙ sym (q .state)
+
+pub TakenFor-one-outcome : {h : Sm3} {part : List ℕ} {a b : ℕ} {h₁ h₂ : Sm3}
+    → TakenFor h part a h₁ → TakenFor h part b h₂ → (a ≡ b) × (h₁ ≡ h₂)
+TakenFor-one-outcome p q = (p .result ∙ sym (q .result), p .state ∙ sym (q .state))
+
+pub DigestedFor-one-outcome : {h : Sm3} {digest : List ℕ} {a b : ℕ} {x y : List ℕ}
+    → DigestedFor h digest a x → DigestedFor h digest b y → (a ≡ b) × (x ≡ y)
+DigestedFor-one-outcome p q = (p .result ∙ sym (q .result), p .output ∙ sym (q .output))

@@ -6,7 +6,9 @@ use Prim.Native.Nat.{ℕ}
 use lib.ListN.{length}
 use Rattle.answers.specs.Answers.{WrongSize}
 use Rattle.words.specs.Bytes.{be}
-use Rattle.sm3.specs.State.{hashed}
+use Rattle.sm3.specs.declared.Sm3.{Sm3}
+use Rattle.sm3.specs.State.{hashed, fresh, updated}
+use Rattle.sm3_lent.specs.Lent.{finishAnswer, finishDigest}
 use Rattle.hmac.specs.State.{mac}
 use Rattle.sm4.specs.Standard.{encrypt, decrypt, roundKeys}
 use Rattle.key_schedule.specs.Sizes.{masterSecretSizes, keyBlockSizes, finishedSizes}
@@ -57,3 +59,14 @@ pub record KeyBlockFor (master client server out : List ℕ) (answer : ℕ) (out
 pub record FinishedFor (master : List ℕ) (role : ℕ) (transcript out : List ℕ) (answer : ℕ) (out′ : List ℕ) : Type 0 where
   pub result : answer ≡ answerFor (finishedSizes master transcript out)
   pub output : out′ ≡ cond (finishedSizes master transcript out) (finished master (roleOf role) transcript) out
+
+pub record StartedFor (h′ : Sm3) : Type 0 where
+  pub state : h′ ≡ fresh
+
+pub record TakenFor (h : Sm3) (part : List ℕ) (answer : ℕ) (h′ : Sm3) : Type 0 where
+  pub result : answer ≡ updated h part .answer
+  pub state : h′ ≡ updated h part .hasher
+
+pub record DigestedFor (h : Sm3) (digest : List ℕ) (answer : ℕ) (digest′ : List ℕ) : Type 0 where
+  pub result : answer ≡ finishAnswer h digest
+  pub output : digest′ ≡ finishDigest h digest

@@ -24,11 +24,15 @@ ghost use Rattle.border.specs.Promise.{
   MasterSecretFor,
   KeyBlockFor,
   FinishedFor,
+  StartedFor,
+  TakenFor,
+  DigestedFor,
 };
 use answers::DONE;
 use answers::WRONG_SIZE;
 use key_schedule::TlcpRole;
 use record::RecordKeysCbc;
+use sm3::Sm3;
 use sm4::Sm4Cipher;
 
 // The bytes into out, if it has room for just them.
@@ -90,7 +94,7 @@ fn key_sizes(mac_key: &[u8], enc_key: &[u8]) -> bool
     mac_key.len() == record::MAC_LEN && enc_key.len() == sm4::KEY_SIZE
 }
 
-// And the IV.
+// Whether they and the IV have their sizes.
 fn seal_sizes(mac_key: &[u8], enc_key: &[u8], iv: &[u8]) -> bool
     ensures { λ r.
         ⌜ r ≡ (keySizes (now («mac_key» .entry)) (now («enc_key» .entry)) && has 16 (now (iv .entry))) ⌝ }
@@ -175,7 +179,7 @@ fn block_sizes(key: &[u8], block: &[u8], out: &[u8]) -> bool
     key.len() == sm4::KEY_SIZE && (block.len() == sm4::BLOCK_SIZE && out.len() == sm4::BLOCK_SIZE)
 }
 
-// One SM4 block enciphered.
+// The block enciphered under the key, into out.
 #[no_mangle]
 pub extern "C" fn noustrel_sm4_encrypt_block(key: &[u8], block: &[u8], out: &mut [u8]) -> u32
     ensures { λ r.
@@ -185,12 +189,12 @@ pub extern "C" fn noustrel_sm4_encrypt_block(key: &[u8], block: &[u8], out: &mut
         return WRONG_SIZE as u32;
     }
     let cipher = Sm4Cipher::new(array_16(key));
-    let bytes = cipher.encrypt_block(array_16(block));
-    words::copy_at(out, 0, &bytes);
+    let enciphered = cipher.encrypt_block(array_16(block));
+    words::copy_at(out, 0, &enciphered);
     DONE as u32
 }
 
-// One SM4 block deciphered.
+// The block deciphered under the key, into out.
 #[no_mangle]
 pub extern "C" fn noustrel_sm4_decrypt_block(key: &[u8], block: &[u8], out: &mut [u8]) -> u32
     ensures { λ r.
@@ -200,8 +204,8 @@ pub extern "C" fn noustrel_sm4_decrypt_block(key: &[u8], block: &[u8], out: &mut
         return WRONG_SIZE as u32;
     }
     let cipher = Sm4Cipher::new(array_16(key));
-    let bytes = cipher.decrypt_block(array_16(block));
-    words::copy_at(out, 0, &bytes);
+    let deciphered = cipher.decrypt_block(array_16(block));
+    words::copy_at(out, 0, &deciphered);
     DONE as u32
 }
 
@@ -257,4 +261,29 @@ pub extern "C" fn noustrel_finished(
 {
     let side = role_of(role);
     key_schedule::finished_verify_data(master_secret, side, transcript_hash, out) as u32
+}
+
+// A fresh running hash in the state lent, whatever stood there.
+#[no_mangle]
+pub extern "C" fn noustrel_sm3_start(h: &mut Sm3)
+    ensures { λ _. ⌜ StartedFor (now (h .exit)) ⌝ }
+{
+    sm3_lent::start(h);
+}
+
+// data is taken in; answer 7 and the state as found where its fill is above 63.
+#[no_mangle]
+pub extern "C" fn noustrel_sm3_update(h: &mut Sm3, data: &[u8]) -> u32
+    ensures { λ r. ⌜ TakenFor (now (h .entry)) (now («data» .entry)) r (now (h .exit)) ⌝ }
+{
+    sm3_lent::update(h, data) as u32
+}
+
+// The digest of all bytes so far into 32 bytes, the state as it was. Answer 9 and the digest as found where it has not
+// 32 bytes, before all else; answer 7 and zeros where the state's fill is above 63.
+#[no_mangle]
+pub extern "C" fn noustrel_sm3_finish(h: &Sm3, digest: &mut [u8]) -> u32
+    ensures { λ r. ⌜ DigestedFor (now (h .entry)) (now (digest .entry)) r (now (digest .exit)) ⌝ }
+{
+    sm3_lent::finish(h, digest) as u32
 }

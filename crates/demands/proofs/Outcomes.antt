@@ -8,7 +8,7 @@ use Rattle.record.proofs.OneOutcome.{Protected-one-outcome}
 use Rattle.verdict.proofs.OneOutcome.{Cleared-one-outcome}
 use Rattle.steps.proofs.OneOutcome.{Step-one-outcome}
 use Rattle.opening.proofs.OneOutcome.{Deprotected-one-outcome}
-use Rattle.border.proofs.OneOutcome.{Hashed-one-outcome, Maced-one-outcome, SealedFor-one-outcome, OpenedFor-one-outcome, Enciphered-one-outcome as EncipheredFor-one-outcome, Deciphered-one-outcome as DecipheredFor-one-outcome, MasterSecretFor-one-outcome, KeyBlockFor-one-outcome, FinishedFor-one-outcome}
+use Rattle.border.proofs.OneOutcome.{Hashed-one-outcome, Maced-one-outcome, SealedFor-one-outcome, OpenedFor-one-outcome, Enciphered-one-outcome as EncipheredFor-one-outcome, Deciphered-one-outcome as DecipheredFor-one-outcome, MasterSecretFor-one-outcome, KeyBlockFor-one-outcome, FinishedFor-one-outcome, StartedFor-one-outcome, TakenFor-one-outcome, DigestedFor-one-outcome}
 use Rattle.demands.specs.Outcomes.{Outcomes}
 
 pub outcomes : Outcomes
@@ -38,4 +38,7 @@ outcomes =
       «noustrel_master_secret» = λ preMaster client server out a b x y. MasterSecretFor-one-outcome;
       «noustrel_key_block» = λ master client server out a b x y. KeyBlockFor-one-outcome;
       «noustrel_finished» = λ master role transcript out a b x y. FinishedFor-one-outcome;
+      «noustrel_sm3_start» = λ x y. StartedFor-one-outcome;
+      «noustrel_sm3_update» = λ h part a b x y. TakenFor-one-outcome;
+      «noustrel_sm3_finish» = λ h digest a b x y. DigestedFor-one-outcome;
     }

@@ -17,7 +17,7 @@ use Rattle.verdict.specs.Promise.{Cleared}
 use Rattle.steps.specs.declared.OpeningCbc.{OpeningCbc}
 use Rattle.steps.specs.Promise.{Step}
 use Rattle.opening.specs.Promise.{Deprotected}
-use Rattle.border.specs.Promise.{Hashed, Maced, SealedFor, OpenedFor, Enciphered as EncipheredFor, Deciphered as DecipheredFor, MasterSecretFor, KeyBlockFor, FinishedFor}
+use Rattle.border.specs.Promise.{Hashed, Maced, SealedFor, OpenedFor, Enciphered as EncipheredFor, Deciphered as DecipheredFor, MasterSecretFor, KeyBlockFor, FinishedFor, StartedFor, TakenFor, DigestedFor}
 
 -- what is lent has one final content
 abbrev pub One : {A : Type 0} → (A → Type 0) → Type 0
@@ -66,3 +66,6 @@ pub record Outcomes : Type 0 where
   pub «noustrel_master_secret» : (preMaster client server out : List ℕ) → Two (MasterSecretFor preMaster client server out)
   pub «noustrel_key_block» : (master client server out : List ℕ) → Two (KeyBlockFor master client server out)
   pub «noustrel_finished» : (master : List ℕ) (role : ℕ) (transcript out : List ℕ) → Two (FinishedFor master role transcript out)
+  pub «noustrel_sm3_start» : One StartedFor
+  pub «noustrel_sm3_update» : (h : Sm3) (part : List ℕ) → Two (TakenFor h part)
+  pub «noustrel_sm3_finish» : (h : Sm3) (digest : List ℕ) → Two (DigestedFor h digest)

@@ -8,6 +8,7 @@ use native.Mathlib.Numerals.{unary-clauses}
 use native.Mathlib.Omega.{arith}
 use borrow.Author.Tests.{ltb-true, ltb-false, eqb-true, eqb-false}
 use lib.Arith.{lt-of-le-ne}
+use lib.Bits.{bitXor, xor-zero-l, xor-zero-r}
 use lib.Dec.{ltb, eqb}
 use lib.ListN.{length, getD, take, drop, replicate, length-append, length-replicate, take-append-drop}
 use lib.ListN.{List·getD-append, List·getD-eq-default}
@@ -98,6 +99,22 @@ module _ (m : List ℕ) where
       cond-is (eqb b (final m))
       (λ t. ap (λ (k : ℕ). getD (ended m) (k * 64 + i) 0) (eqb-true b (final m) t) ∙ byte-count i l)
       (λ f. byte-outside b i h (λ e. absurd (eqb-false b (final m) f e)))
+
+  -- no text and no 0x80 stands where the count does, so a count and zeros elsewhere are laid over both by exclusive or
+  pub last-by-xor : (b i : ℕ) (c : List ℕ) → 56 ≤ i → i < 64
+      → c ≡ cond (eqb b (final m)) (count (64 + length m)) (replicate 8 0)
+      → bitXor (getD marked (b * 64 + i) 0) (getD c (i - 56) 0) ≡ byteAt m b i
+  unfolding final
+  last-by-xor b i c l h e = rw e (by (eqb b (final m)) refl) ∙ sym (byte-last b i l h)
+    where
+      by : (t : Bool) → eqb b (final m) ≡ t
+          → bitXor (getD marked (b * 64 + i) 0) (getD (cond t (count (64 + length m)) (replicate 8 0)) (i - 56) 0)
+          ≡ cond t (getD (count (64 + length m)) (i - 56) 0) (getD marked (b * 64 + i) 0)
+      by true f =
+          let z : getD marked (b * 64 + i) 0 ≡ 0 =
+          List·getD-eq-default marked 0 (omega (arith, eqb-true b (final m) f, length-append m (0x80 ∷ []))) in
+          rw z (xor-zero-l (getD (count (64 + length m)) (i - 56) 0))
+      by false f = rw (getD-replicate-self 8 (i - 56) 0) (xor-zero-r (getD marked (b * 64 + i) 0))
 
 -- no more is taken than there is
 pub take-min : (n : ℕ) (l : List ℕ) → take (min n (length l)) l ≡ take n l

@@ -94,18 +94,29 @@ fn text_byte(header: [u8; 13], data: &[u8], held: usize, p: usize) -> u8
     words::select_u8(text, 0x80, words::ct_eq_usize(p, end))
 }
 
-// Byte i of block b: the count's, where i (which is public) is in the last 8 and the block is the final one.
-fn byte_at(header: [u8; 13], data: &[u8], held: usize, b: usize, i: usize) -> u8
-    requires { ⌜ (held ≤ length (now «data»)) × (b ≤ length (now «data») / 64 + 1) × (i < 64) ⌝ }
+// The count of all bytes where block b is the final one, else zeros. It is chosen once for a block: a choice inside the loop over
+// a block's bytes, where it never changes, would be taken out of the loop by the compiler, as a branch.
+fn count_in(held: usize, b: usize) -> [u8; 8]
+    requires { ⌜ held < 2 ^ 63 ⌝ }
+    ensures { λ r. ⌜ r ≡ cond (eqb b ((13 + held + 8) / 64)) (count (64 + 13 + held)) (replicate 8 0) ⌝ }
+{
+    // the key's block is counted too
+    let bits = (BLOCK_SIZE + HEADER_LEN + held) << 3;
+    let chosen = words::select_usize(0, bits, is_final(held, b));
+    words::u64_to_be_bytes(chosen as u64)
+}
+
+// Byte i of block b, which has this count in it or zeros: no byte of text or 0x80 stands where a count does.
+fn byte_at(header: [u8; 13], data: &[u8], held: usize, counted: [u8; 8], b: usize, i: usize) -> u8
+    requires { ⌜ (held ≤ length (now «data»)) × (b ≤ length (now «data») / 64 + 1) × (i < 64) × (counted ≡ cond (eqb b ((13 + held + 8) / 64)) (count (64 + 13 + held)) (replicate 8 0)) ⌝ }
     ensures { λ r. ⌜ r ≡ byteAt (header ++ take held (now («data» .entry))) b i ⌝ }
 {
     let byte = text_byte(header, data, held, b * BLOCK_SIZE + i);
+    // public
     if i < BLOCK_SIZE - 8 {
         return byte;
     }
-    // the key's block is counted too
-    let count = count_of(BLOCK_SIZE + HEADER_LEN + held);
-    words::select_u8(byte, count[i - (BLOCK_SIZE - 8)], is_final(held, b))
+    byte ^ counted[i - (BLOCK_SIZE - 8)]
 }
 
 // Block b of header and text with their ending: 64 bytes, each selected by masks.
@@ -118,8 +129,9 @@ fn mac_block(header: [u8; 13], data: &[u8], held: usize, b: usize) -> [u8; 64]
     if data.len() / BLOCK_SIZE + 1 < b {
         return block;
     }
+    let counted = count_in(held, b);
     for i in 0..64 {
-        block[i] = byte_at(header, data, held, b, i);
+        block[i] = byte_at(header, data, held, counted, b, i);
     }
     block
 }

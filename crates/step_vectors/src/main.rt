@@ -2,8 +2,6 @@
 // that are accepted and refused, states that were tampered with, ended openings and refused starts. The file stdout has the
 // values of a model that was written from the rules, which the script `expected` runs.
 ghost use Prim.Native.Nat.{_≤_, _<_};
-ghost use mathlib.Core.Path.{_≡_};
-ghost use lib.ListN.{length};
 use libc::STDOUT_FILENO;
 use record::RecordKeysCbc;
 use sm4::Sm4Cipher;
@@ -24,10 +22,12 @@ fn wide(x: u8) -> u64
     x as u64
 }
 
-// n in decimal, behind a space or the label's dash.
-fn number(before: &[u8], n: u64) {
-    text(before);
-    io::print_decimal(STDOUT_FILENO, n);
+// A space, and a number in decimal, for each.
+fn numbers(row: &[u64]) {
+    for i in 0..row.len() {
+        text(b" ");
+        io::print_decimal(STDOUT_FILENO, row[i]);
+    }
 }
 
 // A space, and the bytes in hexadecimal.
@@ -38,17 +38,10 @@ fn hex(bytes: &[u8]) {
     }
 }
 
-fn mark(yes: bool) {
-    if yes {
-        text(b" 1");
-    } else {
-        text(b" 0");
-    }
-}
-
 fn label(name: &[u8], k: usize) {
     text(name);
-    number(b"-", k as u64);
+    text(b"-");
+    io::print_decimal(STDOUT_FILENO, k as u64);
 }
 
 // Both rows of words, as bytes, and both keys.
@@ -63,68 +56,59 @@ fn secrets(opening: OpeningCbc) {
     hex(&enc_key);
 }
 
-// Every field, in the state's order.
-fn fields(opening: OpeningCbc) {
+// Number, type and version.
+fn header_parts(opening: OpeningCbc) {
+    let row = [opening.seq, opening.content_type as u64];
     let version = opening.version;
-    secrets(opening);
-    number(b" ", opening.seq);
-    number(b" ", wide(opening.content_type));
+    numbers(&row);
     hex(&version);
-    number(b" ", opening.n as u64);
-    number(b" ", opening.total as u64);
-    number(b" ", opening.done as u64);
-    number(b" ", opening.held as u64);
-    mark(opening.pad_ok);
-    mark(opening.ended);
-    number(b" ", wide(opening.answer));
 }
 
-// The rest of a line: answer, length, count, the state, and the digest of the output.
+// The fields behind them, in the state's order.
+fn progress(opening: OpeningCbc) {
+    let row = [
+        opening.n as u64,
+        opening.total as u64,
+        opening.done as u64,
+        opening.held as u64,
+        opening.pad_ok as u64,
+        opening.ended as u64,
+        opening.answer as u64,
+    ];
+    numbers(&row);
+}
+
+// The rest of a line: answer, length, count, every field of the state, and the digest of the output.
 fn reported(s: Stepped, out: &[u8]) {
-    number(b" ", wide(s.answer));
-    number(b" ", s.length as u64);
-    number(b" ", s.count as u64);
-    fields(s.opening);
+    let report = [s.answer as u64, s.length as u64, s.count as u64];
+    numbers(&report);
+    secrets(s.opening);
+    header_parts(s.opening);
+    progress(s.opening);
+    digest(out);
+}
+
+fn digest(out: &[u8]) {
     let d = sm3::hash(out);
     let bytes = d.bytes;
     hex(&bytes);
     text(b"\n");
 }
 
-// Byte i is step i + first, modulo 256.
-fn pattern(step: u8, first: u8) -> [u8; 160]
-    ensures { λ r. ⌜ length r ≡ 160 ⌝ }
-{
-    let mut m = [0u8; 160];
+// Byte i of out is made step i + first, modulo 256.
+fn spread(step: u8, first: u8, out: &mut [u8]) {
     let mut x = first;
-    for i in 0..160 {
-        m[i] = x;
+    for i in 0..out.len() {
+        out[i] = x;
         x = std::num::wrapping_add_u8(x, step);
     }
-    m
-}
-
-// The bytes of which every text is the front, and what an output holds before its opening starts.
-fn plain() -> [u8; 160]
-    ensures { λ r. ⌜ length r ≡ 160 ⌝ }
-{
-    pattern(7, 3)
-}
-
-fn found() -> [u8; 160]
-    ensures { λ r. ⌜ length r ≡ 160 ⌝ }
-{
-    pattern(11, 5)
 }
 
 fn keys() -> RecordKeysCbc {
-    let m = pattern(13, 1);
-    let e = pattern(17, 9);
-    let mut mac_key = [0u8; 32];
-    let mut enc_key = [0u8; 16];
-    words::copy_at(&mut mac_key, 0, &m);
-    words::copy_at(&mut enc_key, 0, &e);
-    RecordKeysCbc { mac_key, enc_key }
+    let mut key_block = [0u8; 128];
+    spread(13, 1, &mut key_block);
+    let h = RecordKeysCbc::client_half(&key_block);
+    h.keys
 }
 
 fn started(record_len: usize, room: usize) -> Stepped {
@@ -138,16 +122,20 @@ fn started(record_len: usize, room: usize) -> Stepped {
     )
 }
 
+// Byte i of every text is 7 i + 94, and so 7 (i + 13) + 3: the header is laid over what is before it.
+fn cover(len: u16, covered: &mut [u8]) {
+    let header = record::record_header(NUMBER, TYPE, record::TLCP_RECORD_VERSION, len);
+    spread(7, 3, covered);
+    words::copy_at(covered, 0, &header);
+}
+
 // The MAC of a text of len bytes.
 fn mac_of(len: usize) -> [u8; 32]
     requires { ⌜ len ≤ 128 ⌝ }
 {
-    let m = plain();
-    let mac_key = keys().mac_key;
-    let header = record::record_header(NUMBER, TYPE, record::TLCP_RECORD_VERSION, len as u16);
     let mut covered = [0u8; 141];
-    words::copy_at(&mut covered, 0, &header);
-    words::copy_at(&mut covered, 13, &m);
+    cover(len as u16, &mut covered);
+    let mac_key = keys().mac_key;
     let mac = hmac::hmac_sm3(&mac_key, &covered[..13 + len]);
     mac.bytes
 }
@@ -156,9 +144,8 @@ fn mac_of(len: usize) -> [u8; 32]
 fn lay_body(len: usize, padlen: u8, at: usize, wrong: usize, body: &mut [u8])
     requires { ⌜ len ≤ 128 ⌝ }
 {
-    let m = plain();
     let mac = mac_of(len);
-    words::copy_at(body, 0, &m);
+    spread(7, 94, body);
     words::copy_at(body, len, &mac);
     words::fill_at(body, len + 32, (padlen as usize) + 1, padlen);
     words::fill_at(body, at, wrong, 0x5a);
@@ -171,6 +158,15 @@ fn seal(body: &mut [u8], record: &mut [u8]) {
     cbc::encipher_cbc(Sm4Cipher::new(enc_key), iv, body);
     words::copy_at(record, 0, &iv);
     words::copy_at(record, 16, body);
+}
+
+// A record of a body of 128 bytes: the text's length, the padding's, and what is wrong in it.
+fn sealed(len: usize, padlen: u8, at: usize, wrong: usize, record: &mut [u8])
+    requires { ⌜ len ≤ 128 ⌝ }
+{
+    let mut body = [0u8; 128];
+    lay_body(len, padlen, at, wrong, &mut body);
+    seal(&mut body, record);
 }
 
 // A line: one step.
@@ -197,55 +193,36 @@ fn run(
     opening
 }
 
-// The start, and the steps up to step last.
+// The start, with an output that holds a pattern, and the steps up to step last.
 fn opened(name: &[u8], last: usize, record: &[u8], out: &mut [u8]) -> OpeningCbc {
+    spread(11, 5, out);
     let s = started(record.len(), out.len());
     label(name, 0);
     reported(s, out);
     run(name, s.opening, 0, last, record, out)
 }
 
-// The same for a record of a body of 48 bytes, which is accepted.
+// A body of 48 bytes, accepted.
 fn short() {
     let mut body = [0u8; 48];
     let mut r = [0u8; 64];
-    let mut out = found();
+    let mut out = [0u8; 50];
     lay_body(5, 10, 0, 0, &mut body);
     seal(&mut body, &mut r);
     opened(b"short", 8, &r, &mut out);
 }
 
-// A record of a body of 128 bytes: the text's length, the padding's, and what is wrong in it.
-fn sealed(len: usize, padlen: u8, at: usize, wrong: usize, record: &mut [u8])
+// A body of 128 bytes, opened to its end.
+fn whole(name: &[u8], len: usize, padlen: u8, at: usize, wrong: usize) -> OpeningCbc
     requires { ⌜ len ≤ 128 ⌝ }
 {
-    let mut body = [0u8; 128];
-    lay_body(len, padlen, at, wrong, &mut body);
-    seal(&mut body, record);
-}
-
-// The text and what the MAC adds to it are one block, so that the MAC's second step has none; then steps on the ended opening.
-fn accepted() {
     let mut r = [0u8; 144];
-    let mut out = found();
-    sealed(42, 53, 0, 0, &mut r);
-    let opening = opened(b"accepted", 14, &r, &mut out);
-    ended(opening, &r, &mut out);
-    sized(b"ended-record", 143, opening, 143, 160);
-    sized(b"ended-room", 127, opening, 144, 127);
+    let mut out = [0u8; 160];
+    sealed(len, padlen, at, wrong, &mut r);
+    opened(name, 14, &r, &mut out)
 }
 
-// Answer 8, and 7 before it.
-fn ended(opening: OpeningCbc, record: &[u8], out: &mut [u8]) {
-    once(b"ended", 15, opening, record, out);
-    let mut t = opening;
-    t.done = 14;
-    once(b"ended-done", 14, t, record, out);
-    t.held = 96;
-    once(b"ended-held", 96, t, record, out);
-}
-
-// A step with a record of zeros and an output of these sizes.
+// A line: a step with a record of zeros and an output, both of these sizes.
 fn sized(name: &[u8], k: usize, opening: OpeningCbc, record_len: usize, room: usize)
     requires { ⌜ (record_len ≤ 160) × (room ≤ 160) ⌝ }
 {
@@ -254,58 +231,33 @@ fn sized(name: &[u8], k: usize, opening: OpeningCbc, record_len: usize, room: us
     once(name, k, opening, &r[..record_len], &mut out[..room]);
 }
 
-// A whole opening, refused in its last step.
-fn refused(name: &[u8], len: usize, padlen: u8, at: usize)
-    requires { ⌜ len ≤ 128 ⌝ }
-{
-    let mut r = [0u8; 144];
-    let mut out = found();
-    sealed(len, padlen, at, 1, &mut r);
-    opened(name, 14, &r, &mut out);
+// An opening that has ended: answer 8, and 7 before it.
+fn ended(opening: OpeningCbc) {
+    sized(b"ended", 15, opening, 144, 160);
+    sized(b"ended-record", 143, opening, 143, 160);
+    sized(b"ended-room", 127, opening, 144, 127);
+    let mut t = opening;
+    t.done = 14;
+    sized(b"ended-done", 14, t, 144, 160);
+    t.held = 96;
+    sized(b"ended-held", 96, t, 144, 160);
 }
 
-// Held length and padding mark changed before the first step of the MAC: no rule refuses that.
-fn changed(name: &[u8], held: usize, pad_ok: bool, record: &[u8], out: &mut [u8]) {
-    let mut t = opened(name, 9, record, out);
-    t.held = held;
-    t.pad_ok = pad_ok;
-    run(name, t, 9, 14, record, out);
-}
-
-// Where held length and padding mark are put right, a text with wrong padding is accepted.
-fn changed_padding() {
-    let mut r = [0u8; 144];
-    let mut out = found();
-    sealed(43, 52, 100, 1, &mut r);
-    changed(b"padding-changed", 43, true, &r, &mut out);
-}
-
-fn changed_mac() {
-    let mut r = [0u8; 144];
-    let mut out = found();
-    sealed(95, 0, 126, 1, &mut r);
-    changed(b"mac-changed", 20, false, &r, &mut out);
-}
-
-// T that is not of n.
-fn totals(opening: OpeningCbc, record: &[u8], out: &mut [u8]) {
+// T that is not of n, T or more steps done, and a held length above n - 33.
+fn out_of_range(opening: OpeningCbc) {
     let mut t = opening;
     t.total = 13;
-    once(b"total", 13, t, record, out);
+    sized(b"total", 13, t, 144, 160);
     t.total = 15;
-    once(b"total", 15, t, record, out);
-}
-
-// T or more steps done, and a held length above n - 33.
-fn out_of_range(opening: OpeningCbc, record: &[u8], out: &mut [u8]) {
+    sized(b"total", 15, t, 144, 160);
     let mut d = opening;
     d.done = 14;
-    once(b"done", 14, d, record, out);
+    sized(b"done", 14, d, 144, 160);
     d.done = 15;
-    once(b"done", 15, d, record, out);
+    sized(b"done", 15, d, 144, 160);
     let mut h = opening;
     h.held = 96;
-    once(b"held", 96, h, record, out);
+    sized(b"held", 96, h, 144, 160);
 }
 
 // A length that no body has, with T, a record and an output that would be of it.
@@ -319,7 +271,7 @@ fn other_body(opening: OpeningCbc, n: usize)
     sized(b"n", n, t, n + 16, n);
 }
 
-// A body one block above the longest.
+// One block above the longest.
 fn too_long(opening: OpeningCbc) {
     let record = [0u8; 16464];
     let mut out = [0xeeu8; 16448];
@@ -339,39 +291,42 @@ fn other_sizes(opening: OpeningCbc) {
     too_long(opening);
 }
 
-// Answer 7 in the midst of an opening, with the opening's own output: neither shows in the steps behind.
-fn broken(record: &[u8], out: &mut [u8]) {
-    let opening = opened(b"mac", 9, record, out);
-    totals(opening, record, out);
-    out_of_range(opening, record, out);
-    other_sizes(opening);
-    run(b"mac", opening, 9, 14, record, out);
-}
-
-fn wrong_mac() {
+// A body of 128 bytes with a wrong byte, held length and padding mark changed before the first step of the MAC, which no rule
+// refuses, and the steps from there on. Handed back is the opening as it was before.
+fn changed(name: &[u8], len: usize, padlen: u8, at: usize, held: usize, pad_ok: bool) -> OpeningCbc
+    requires { ⌜ len ≤ 128 ⌝ }
+{
     let mut r = [0u8; 144];
-    let mut out = found();
-    sealed(95, 0, 126, 1, &mut r);
-    broken(&r, &mut out);
+    let mut out = [0u8; 160];
+    sealed(len, padlen, at, 1, &mut r);
+    let opening = opened(name, 9, &r, &mut out);
+    let mut t = opening;
+    t.held = held;
+    t.pad_ok = pad_ok;
+    run(name, t, 9, 14, &r, &mut out);
+    opening
 }
 
 // A start by its sizes, and a step on what it hands back.
 fn start(record_len: usize, room: usize) {
-    let out = found();
     let s = started(record_len, room);
     label(b"start", record_len);
-    number(b"-", room as u64);
-    reported(s, &out);
-    sized(b"start-step", record_len, s.opening, 144, 160);
+    label(b"", room);
+    reported(s, b"");
+    sized(b"start-room", room, s.opening, 144, 160);
 }
 
 fn main() {
     short();
-    accepted();
-    refused(b"padding", 43, 52, 100);
-    wrong_mac();
-    changed_padding();
-    changed_mac();
+    // text and what the MAC adds to it are one block, so that the second of the MAC's steps has none
+    ended(whole(b"accepted", 42, 53, 0, 0));
+    whole(b"padding", 43, 52, 100, 1);
+    whole(b"mac", 95, 0, 126, 1);
+    // put right, and so accepted
+    changed(b"padding-changed", 43, 52, 100, 43, true);
+    let opening = changed(b"mac-changed", 95, 0, 126, 20, false);
+    out_of_range(opening);
+    other_sizes(opening);
     start(63, 160);
     start(65, 0);
     start(64, 47);

@@ -1,8 +1,6 @@
 -- `border::array_16` meets its contract: 16 bytes laid over 16 are all there is. Assumes nothing.
-use mathlib.Core.Path.{_≡_, _∙_}
-use native.Mathlib.Omega.{arith}
+use mathlib.Core.Path.{_∙_}
 use borrow.Author.Needs.{needs}
-use lib.ListN.{length}
 use Rattle.words.proofs.Lists.{put-whole}
 use Rattle.border.proofs.array_16.Statement.{statement}
 use Rattle.border.proofs.array_16.Tie as tie

@@ -1,8 +1,6 @@
 -- `border::array_32` meets its contract: 32 bytes laid over 32 are all there is. Assumes nothing.
-use mathlib.Core.Path.{_≡_, _∙_}
-use native.Mathlib.Omega.{arith}
+use mathlib.Core.Path.{_∙_}
 use borrow.Author.Needs.{needs}
-use lib.ListN.{length}
 use Rattle.words.proofs.Lists.{put-whole}
 use Rattle.border.proofs.array_32.Statement.{statement}
 use Rattle.border.proofs.array_32.Tie as tie

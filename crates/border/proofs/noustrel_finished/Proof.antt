@@ -1,11 +1,6 @@
 -- `border::noustrel_finished` meets its contract: it is `finished_verify_data` of the role that the number names. Assumes
 -- nothing.
-use mathlib.Core.Bool.{cond}
-use mathlib.Core.Path.{ap, _∙_}
 use borrow.Author.Needs.{needs}
-use Rattle.key_schedule.specs.declared.TlcpRole.{TlcpRole}
-use Rattle.key_schedule.specs.Sizes.{finishedSizes}
-use Rattle.key_schedule.specs.Standard.{finished}
 use Rattle.border.specs.Border.{answerFor}
 use Rattle.border.proofs.noustrel_finished.Statement.{statement}
 use Rattle.border.proofs.noustrel_finished.Tie as tie

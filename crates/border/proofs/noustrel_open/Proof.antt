@@ -1,10 +1,9 @@
 -- `border::noustrel_open` meets its contract: 9 where a key has another size, else `deprotect_cbc` of the keys and the
 -- version's bytes. Assumes nothing.
 use mathlib.Core.Bool.{true}
-use mathlib.Core.Path.{_≡_, sym, ap, _∙_}
+use mathlib.Core.Path.{_≡_, sym, _∙_}
 use borrow.Author.Needs.{needs}
 use borrow.Author.Tests.{not-true, not-false}
-use Rattle.opening.specs.declared.Opened.{Opened}
 use Rattle.border.specs.Border.{keySizes}
 use Rattle.border.proofs.Sizes.{keys-long}
 use Rattle.border.proofs.noustrel_open.Statement.{statement}
@@ -29,12 +28,13 @@ returns-2 c =
     let keyed = version .before in
     let e = right (keyed .before) in
     let p = opened .deprotect-cbc .ensures in
-    let r = p .result in
+    let k = keyed .keys-from .ensures in
+    let v = version .u16-to-be-bytes .ensures in
     record {
-      result = rw (e, ← keyed .keys-from .ensures, ← version .u16-to-be-bytes .ensures) (ap (λ (o : Opened). o .answer) r);
-      output = rw (e, ← keyed .keys-from .ensures, ← version .u16-to-be-bytes .ensures) (p .output);
-      reported = rw (e, ← keyed .keys-from .ensures, ← version .u16-to-be-bytes .ensures) (ap (λ (o : Opened). o .length) r);
-      counted = rw (e, ← keyed .keys-from .ensures, ← version .u16-to-be-bytes .ensures) (ap (λ (o : Opened). o .count) r);
+      result = rw (e, p .result, k, v);
+      output = rw (e, ← k, ← v) (p .output);
+      reported = rw (e, p .result, k, v);
+      counted = rw (e, p .result, k, v);
     }
 
 pub noustrel-open-spec : {M : Type 1} → statement M

@@ -1,11 +1,10 @@
 -- `border::noustrel_seal` meets its contract: 9 where a size is wrong, else `protect_cbc` of the keys, the version's bytes and
 -- the IV that the slices hold. Assumes nothing.
 use mathlib.Core.Bool.{true, _&&_}
-use mathlib.Core.Path.{_≡_, sym, ap, _∙_}
+use mathlib.Core.Path.{_≡_, sym, _∙_}
 use borrow.Author.Needs.{needs}
 use borrow.Author.Tests.{not-true, not-false}
 use lib.ListN.{length}
-use Rattle.record.specs.declared.Sealed.{Sealed}
 use Rattle.border.specs.Border.{has, keySizes}
 use Rattle.border.proofs.Sizes.{both, is-long, keys-long}
 use Rattle.border.proofs.noustrel_seal.Statement.{statement}
@@ -40,9 +39,9 @@ returns-2 c =
     let e = keyed .before in
     let p = sealed .protect-cbc .ensures in
     record {
-      result = rw (right e) (ap (λ (r : Sealed). r .answer) (p .result));
+      result = rw (right e, p .result);
       output = rw (right e, ← keyed .keys-from .ensures, ← version .u16-to-be-bytes .ensures, ← start .array-16 .ensures) (p .output);
-      reported = rw (right e) (ap (λ (r : Sealed). r .length) (p .result));
+      reported = rw (right e, p .result);
     }
 
 pub noustrel-seal-spec : {M : Type 1} → statement M

@@ -1,6 +1,5 @@
 -- `border::seal_sizes` meets its contract: the keys' sizes and then the IV's. Assumes nothing.
 use borrow.Author.Needs.{needs}
-use mathlib.Core.Path.{sym, _∙_}
 use Rattle.border.specs.Border.{has}
 use Rattle.border.proofs.seal_sizes.Statement.{statement}
 use Rattle.border.proofs.seal_sizes.Tie as tie

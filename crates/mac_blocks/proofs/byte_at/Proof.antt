@@ -1,17 +1,16 @@
--- `mac_blocks::byte_at` meets its contract: the count's byte is chosen in the last 8 of the final block. Assumes nothing.
+-- `mac_blocks::byte_at` meets its contract: the count, or zeros, is laid over the last 8 bytes, where no text is. Assumes nothing.
 use mathlib.Core.Bool.{cond}
 use mathlib.Core.List.{List, _++_}
 use mathlib.Core.Path.{_≡_, sym, ap, ap₂, _∙_}
-use Prim.Native.Nat.{ℕ, _+_, _-_}
+use Prim.Native.Nat.{ℕ, _+_, _-_, _/_}
 use native.Mathlib.Omega.{arith}
 use borrow.Author.Needs.{needs}
+use lib.Bits.{bitXor}
 use lib.Dec.{eqb}
-use lib.ListN.{length, getD, take}
-use Rattle.words.specs.Choice.{bit}
+use lib.ListN.{length, getD, take, replicate}
 use Rattle.sm3.specs.Standard.{count}
 use Rattle.mac_blocks.specs.Schedule.{final}
-use Rattle.mac_blocks.proofs.Byte.{length-text, final-text, byte-first, byte-last}
-use Rattle.mac_blocks.proofs.Choice.{chosen-by}
+use Rattle.mac_blocks.proofs.Byte.{length-text, final-text, byte-first, last-by-xor}
 use Rattle.mac_blocks.proofs.byte_at.Statement.{statement}
 use Rattle.mac_blocks.proofs.byte_at.Tie as tie
 
@@ -23,19 +22,17 @@ returns c =
 
 returns-2 : tie.Need-returns-2
 returns-2 c =
-    let s = c .before .before .before .before .before .before in
+    let s = c .before .before .before in
     let a = s .args in
     let h : List ℕ = a .header in
     let d : List ℕ = a .«data» .now in
     let m : List ℕ = h ++ take (a .held) d in
-    let thirteen : length h ≡ 13 = search needs in
-    let f = sym (final-text h d (a .held) thirteen (s .pre .0)) in
+    let f : (13 + a .held + 8) / 64 ≡ final m = sym (final-text h d (a .held) (search needs) (s .pre .0)) in
     let n : 64 + 13 + a .held ≡ 64 + length m = omega (arith, length-text h d (a .held) (s .pre .0)) in
-    c .select-u8 .ensures
-    ∙ chosen-by (eqb (a .b) (final m)) _ _ (c .before .is-final .ensures ∙ ap (λ (k : ℕ). bit (eqb (a .b) k)) f)
-    ∙ ap₂ (λ (l : List ℕ) (x : ℕ). cond (eqb (a .b) (final m)) (getD l (a .i - 56) 0) x)
-    (c .before .before .count-of .ensures ∙ ap count n) (c .before .before .before .before .text-byte .ensures)
-    ∙ sym (byte-last m (a .b) (a .i) (omega arith) (s .pre .2))
+    let e : a .t4 ≡ cond (eqb (a .b) (final m)) (count (64 + length m)) (replicate 8 0) =
+    s .pre .3 ∙ ap₂ (λ (k l : ℕ). cond (eqb (a .b) k) (count l) (replicate 8 0)) f n in
+    ap (λ (x : ℕ). bitXor x (getD (a .t4) (a .i - 56) 0)) (c .before .text-byte .ensures)
+    ∙ last-by-xor m (a .b) (a .i) (a .t4) (omega arith) (s .pre .2) e
 
 pub byte-at-spec : {M : Type 1} → statement M
 byte-at-spec =
@@ -48,10 +45,5 @@ byte-at-spec =
     returns
     (λ c. search needs)
     (λ c. search needs)
-    (λ c κs. search needs)
     (λ c. search needs)
-    (λ c. search needs)
-    (λ c. search needs)
-    (λ c κs. search needs)
-    (λ c κs. search needs)
     returns-2)

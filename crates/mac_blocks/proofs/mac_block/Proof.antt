@@ -15,11 +15,11 @@ use Rattle.mac_blocks.proofs.mac_block.Statement.{statement}
 use Rattle.mac_blocks.proofs.mac_block.Tie as tie
 
 abbrev Inv-loop : tie.InvT-loop
-Inv-loop header «data» held b block₀ i₀ block i =
+Inv-loop header «data» held b block₀ counted i₀ block i =
     (length block ≡ 64) × (i ≤ 64) × (take i block ≡ table (byteAt (header ++ take held «data») b) i)
 
 abbrev μ-loop : tie.MeasureT-loop
-μ-loop header «data» held b block₀ i₀ block i = 64 - i
+μ-loop header «data» held b block₀ counted i₀ block i = 64 - i
 
 returns : tie.Need-returns Inv-loop μ-loop
 returns c =
@@ -33,6 +33,11 @@ returns c =
 loop-holds : tie.Need-loop-holds Inv-loop μ-loop
 unfolding table
 loop-holds c = (refl, omega arith, refl)
+
+byte-at-requires : tie.Need-byte-at-requires Inv-loop μ-loop
+byte-at-requires c κs =
+    let s = c .before .before .before .before .before in
+    (s .pre, omega arith, omega arith, c .before .before .count-in .ensures)
 
 loop-again : tie.Need-loop-again Inv-loop μ-loop
 loop-again c =
@@ -54,8 +59,9 @@ mac-block-spec =
     μ-loop
     (λ c. search needs)
     returns
-    loop-holds
     (λ c κs. search needs)
+    loop-holds
+    byte-at-requires
     (λ c. search needs)
     (λ c. search needs)
     (λ c. search needs)

@@ -1,0 +1,23 @@
+-- `opening_vectors::fitted` is safe and ends: the parts lie in the record and in the output. Assumes nothing.
+use mathlib.Core.Path.{sym}
+use native.Mathlib.Omega.{arith}
+use borrow.Author.Needs.{needs}
+use lib.Seq.{length-take-le}
+use Rattle.opening_vectors.proofs.fitted.Statement.{statement}
+use Rattle.opening_vectors.proofs.fitted.Tie as tie
+
+slice-aggregate-opened : tie.Need-slice-aggregate-opened
+slice-aggregate-opened c = sym (length-take-le _ _ (omega arith))
+
+slice-aggregate-opened-2 : tie.Need-slice-aggregate-opened-2
+slice-aggregate-opened-2 c = sym (length-take-le _ _ (omega arith))
+
+pub fitted-spec : {M : Type 1} → statement M
+fitted-spec =
+    tie.close
+    (tie.spec
+    slice-aggregate-opened
+    (λ c. search needs)
+    slice-aggregate-opened-2
+    (λ c κs. search needs)
+    (λ c. search needs))
