@@ -1,10 +1,14 @@
 /* Runs sealing, opening, HMAC and one SM4 block with the keys, the text and so all that is deciphered marked as undefined for
    valgrind's memcheck: it reports every conditional jump and every address that depends on them. What comes back, answer, length
-   and output, is declassified after the call. Prints the number of runs. */
+   and output, is declassified after the call. Prints the number of runs.
+   driver [long]           all runs, with one of the longest body
+   driver count KIND SEED N   one opening of a body of N bytes, in between callgrind's marks: KIND 0 good, 1 a wrong MAC, 2 a wrong
+                           padding, 3 rubbish */
 #include <stdint.h>
 #include <stdio.h>
 #include <stdlib.h>
 #include <string.h>
+#include <valgrind/callgrind.h>
 #include <valgrind/memcheck.h>
 
 #include "noustrel.h"
@@ -159,13 +163,40 @@ static void macs_and_blocks(size_t len)
     runs += 2;
 }
 
+/* one opening whose instructions are counted; the padding's length follows from the seed */
+static int counted(int kind, size_t n)
+{
+    static uint8_t body[MOST];
+    size_t top = n - 33 < 255 ? n - 33 : 255, length = 0, count = 0;
+    unsigned padlen = next() % (unsigned)(top + 1);
+    uint32_t answer;
+    must(body_of(body, n - 33 - padlen, padlen) == n, "a body has another length");
+    if (kind == 1)
+        body[n - 33 - padlen + next() % 32] ^= 1;
+    if (kind == 2)
+        body[n - 1] ^= 0x80;
+    encipher(body, n);
+    if (kind == 3)
+        fill(record, n + 16);
+    CALLGRIND_START_INSTRUMENTATION;
+    answer = noustrel_open(mac_key, 32, enc_key, 16, 7, 23, 0x0101, record, n + 16, out, n, &length, &count);
+    CALLGRIND_STOP_INSTRUMENTATION;
+    must(answer == (kind ? 6u : 0u), "another answer than expected");
+    return 0;
+}
+
 int main(int argc, char **argv)
 {
     static const size_t bodies[] = {48, 64, 80, 96, 112, 128, 144, 160, 272, 288, 304, 1040};
     size_t i, most = argc > 1 && strcmp(argv[1], "long") == 0 ? 16432 : 0;
+    if (argc == 5)
+        seed = (uint64_t)atol(argv[3]);
     fill(mac_key, 32);
     fill(enc_key, 16);
     fill(iv, 16);
+    if (argc == 5 && strcmp(argv[1], "count") == 0 && atol(argv[4]) >= 48 && atol(argv[4]) <= 16432 && atol(argv[4]) % 16 == 0)
+        return counted(atoi(argv[2]), (size_t)atol(argv[4]));
+    must(argc == 1 || most, "usage: driver [long] | driver count KIND SEED N");
     for (i = 0; i < sizeof bodies / sizeof *bodies; i++) {
         size_t n = bodies[i], top = n - 33 < 255 ? n - 33 : 255;
         openings(n, 0);
