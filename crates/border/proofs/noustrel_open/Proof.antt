@@ -32,7 +32,7 @@ returns-2 c =
     let v = version .u16-to-be-bytes .ensures in
     record {
       result = rw (e, p .result, k, v);
-      output = rw (e, ← k, ← v) (p .output);
+      output = rw (e, p .output, k, v);
       reported = rw (e, p .result, k, v);
       counted = rw (e, p .result, k, v);
     }

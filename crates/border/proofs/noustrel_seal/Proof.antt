@@ -40,7 +40,7 @@ returns-2 c =
     let p = sealed .protect-cbc .ensures in
     record {
       result = rw (right e, p .result);
-      output = rw (right e, ← keyed .keys-from .ensures, ← version .u16-to-be-bytes .ensures, ← start .array-16 .ensures) (p .output);
+      output = rw (right e, p .output, keyed .keys-from .ensures, version .u16-to-be-bytes .ensures, start .array-16 .ensures);
       reported = rw (right e, p .result);
     }
 
