@@ -83,8 +83,9 @@ native:
 	    else bench/native $$crate build/native/lib$$crate.a; fi || exit 1; done
 
 # The port behind the line protocol, and the comparison with the Rust and the model.
+port: NATIVE = border probes
 port: native
-	$(CC) -O2 -Wall -Wextra -Iinclude differential/port.c build/native/libborder.a -o build/port
+	$(CC) -O2 -Wall -Wextra -Iinclude differential/port.c build/native/libborder.a build/native/libprobes.a -o build/port
 
 differential: oracle port
 	differential/run build/noustrel-oracle build/port

@@ -109,11 +109,15 @@ class Cases:
     def sm3(self):
         return f"sm3 {field(self.bytes(self.length()))}"
 
-    def chunks(self):
-        return " ".join(field(self.bytes(self.r.choice([0, 1, 55, 56, 63, 64, 65, self.length()]))) for _ in range(self.r.randrange(1, 6)))
+    def chunks(self, most=5):
+        return " ".join(field(self.bytes(self.r.choice([0, 1, 55, 56, 63, 64, 65, self.length()]))) for _ in range(self.r.randint(1, most)))
 
     def hmac(self):
         return f"hmac {field(self.bytes(self.r.choice(KEY_LENGTHS)))} {field(self.bytes(self.length()))}"
+
+    def hmacparts(self):
+        """Up to three chunks, which is what the port takes."""
+        return f"hmacparts {field(self.bytes(self.r.choice(KEY_LENGTHS)))} {self.chunks(3)}"
 
     def block(self):
         return f"{self.r.choice(['enc', 'dec'])} {self.bytes(16).hex()} {self.bytes(16).hex()}"
@@ -128,8 +132,9 @@ class Cases:
     def any(self):
         return self.r.choices(
             [self.seal, self.sealroom, self.good, self.wrong_mac, self.wrong_padding, self.damaged, self.rubbish, self.openroom, self.sm3,
-             lambda: "sm3parts " + self.chunks(), lambda: "sm3state " + self.chunks(), self.hmac, self.block, self.derivation],
-            [3, 2, 3, 3, 4, 4, 1, 3, 8, 6, 6, 10, 30, 6])[0]()
+             lambda: "sm3parts " + self.chunks(), lambda: "sm3state " + self.chunks(), self.hmac, self.hmacparts, self.block,
+             self.derivation],
+            [3, 2, 3, 3, 4, 4, 1, 3, 8, 6, 6, 10, 6, 30, 6])[0]()
 
     # ---- what is tried once, whatever the seed
     def edges(self):
@@ -149,6 +154,9 @@ class Cases:
             yield f"sm3 {field(self.bytes(n))}"
         for k in range(0, 200):
             yield f"hmac {field(self.bytes(k))} {field(self.bytes(50))}"
+        for k in range(60, 70):
+            for first in 0, 1, 55, 64:
+                yield f"hmacparts {field(self.bytes(k))} {field(self.bytes(first))} {field(self.bytes(64 - first))} {field(self.bytes(k - 60))}"
         for p in range(48, 81, 16):
             for last in range(256):
                 front, keys = self.parts()

@@ -9,6 +9,10 @@
 
 #include "noustrel.h"
 
+/* of crate probes, which is no part of the library: the MAC over three parts, each taken in by an update of its own */
+uint32_t probe_hmac_parts(const uint8_t *key, size_t key_len, const uint8_t *first, size_t first_len, const uint8_t *second,
+                          size_t second_len, const uint8_t *third, size_t third_len, uint8_t *out, size_t out_len);
+
 #define MOST_FIELDS 4096
 
 typedef struct {
@@ -230,6 +234,25 @@ static void do_hmac(void)
     show(mac, 32);
 }
 
+/* up to three chunks, those that are missing empty; more are not to be had on this side */
+static void do_hmac_parts(void)
+{
+    bytes key = hex(1), chunks[3];
+    uint8_t mac[32];
+    size_t i;
+    for (i = 2; i < count_of_fields; i++)
+        hex(i);
+    if (count_of_fields > 5) {
+        putchar('?');
+        return;
+    }
+    for (i = 0; i < 3; i++)
+        chunks[i] = i + 2 < count_of_fields ? hex(i + 2) : output(0);
+    if (probe_hmac_parts(key.at, key.len, chunks[0].at, chunks[0].len, chunks[1].at, chunks[1].len, chunks[2].at, chunks[2].len, mac, 32))
+        wrong();
+    show(mac, 32);
+}
+
 static void do_block(int encrypt)
 {
     bytes key = hex(1), block = hex(2);
@@ -269,7 +292,7 @@ static const struct {
     const char *name;
     size_t fields;
 } commands[] = {{"seal", 8}, {"sealroom", 9}, {"open", 7}, {"openroom", 8}, {"sm3", 2}, {"sm3parts", 0}, {"sm3state", 0}, {"hmac", 3},
-                {"enc", 3}, {"dec", 3}, {"master", 4}, {"keyblock", 5}, {"finished", 4}};
+                {"enc", 3}, {"dec", 3}, {"master", 4}, {"keyblock", 5}, {"finished", 4}, {"hmacparts", 0}};
 
 static void answer_line(void)
 {
@@ -294,6 +317,7 @@ static void answer_line(void)
     case 10: do_derive("master"); break;
     case 11: do_derive("keyblock"); break;
     case 12: do_derive("finished"); break;
+    case 13: do_hmac_parts(); break;
     default: putchar('?');
     }
     putchar('\n');

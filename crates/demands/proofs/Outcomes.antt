@@ -9,6 +9,7 @@ use Rattle.verdict.proofs.OneOutcome.{Cleared-one-outcome}
 use Rattle.steps.proofs.OneOutcome.{Step-one-outcome}
 use Rattle.opening.proofs.OneOutcome.{Deprotected-one-outcome}
 use Rattle.border.proofs.OneOutcome.{Hashed-one-outcome, Maced-one-outcome, SealedFor-one-outcome, OpenedFor-one-outcome, Enciphered-one-outcome as EncipheredFor-one-outcome, Deciphered-one-outcome as DecipheredFor-one-outcome, MasterSecretFor-one-outcome, KeyBlockFor-one-outcome, FinishedFor-one-outcome, StartedFor-one-outcome, TakenFor-one-outcome, DigestedFor-one-outcome}
+use Rattle.probes.proofs.OneOutcome.{MacedParts-one-outcome}
 use Rattle.demands.specs.Outcomes.{Outcomes}
 
 pub outcomes : Outcomes
@@ -41,4 +42,5 @@ outcomes =
       «noustrel_sm3_start» = λ x y. StartedFor-one-outcome;
       «noustrel_sm3_update» = λ h part a b x y. TakenFor-one-outcome;
       «noustrel_sm3_finish» = λ h digest a b x y. DigestedFor-one-outcome;
+      «probe_hmac_parts» = λ key first second third out a b x y. MacedParts-one-outcome;
     }

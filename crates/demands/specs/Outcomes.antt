@@ -18,6 +18,7 @@ use Rattle.steps.specs.declared.OpeningCbc.{OpeningCbc}
 use Rattle.steps.specs.Promise.{Step}
 use Rattle.opening.specs.Promise.{Deprotected}
 use Rattle.border.specs.Promise.{Hashed, Maced, SealedFor, OpenedFor, Enciphered as EncipheredFor, Deciphered as DecipheredFor, MasterSecretFor, KeyBlockFor, FinishedFor, StartedFor, TakenFor, DigestedFor}
+use Rattle.probes.specs.Promise.{MacedParts}
 
 -- what is lent has one final content
 abbrev pub One : {A : Type 0} → (A → Type 0) → Type 0
@@ -69,3 +70,5 @@ pub record Outcomes : Type 0 where
   pub «noustrel_sm3_start» : One StartedFor
   pub «noustrel_sm3_update» : (h : Sm3) (part : List ℕ) → Two (TakenFor h part)
   pub «noustrel_sm3_finish» : (h : Sm3) (digest : List ℕ) → Two (DigestedFor h digest)
+  -- probes
+  pub «probe_hmac_parts» : (key first second third out : List ℕ) → Two (MacedParts key first second third out)
