@@ -5,7 +5,7 @@ RUST_SRC = ../shared/docs/src
 MAKEFLAGS += --no-print-directory
 CARGO = cd build/oracle && cargo build -q --release --offline --target-dir target
 
-.PHONY: all test demo header wrapper vectors lengths oracle port differential differential-long teeth bench ct clean help workspace native FORCE
+.PHONY: all test demo header wrapper vectors lengths oracle port differential differential-long teeth bench ct fuzz edits clean help workspace native bench-packages FORCE
 
 all: build/libborder.a
 
@@ -21,8 +21,10 @@ help:
 	@echo 'make differential       compare the Rust, the port and a model (a few thousand cases); -long: a million'
 	@echo 'make teeth    the Rust with errors that look right, which the comparison must catch'
 	@echo 'make oracle   build the Rust, unchanged, behind the line protocol, and try it (RUST_SRC=DIR)'
-	@echo 'make bench    time the code against the Rust, in one run'
+	@echo 'make bench    time the code beside the Rust, OpenSSL and libgcrypt, in one run: build/bench.tsv, docs/bench.svg'
 	@echo 'make ct       valgrind over the library: no jump and no address by a secret'
+	@echo 'make fuzz     random calls between guard pages, held to a model, for a minute (SECONDS=3600 SEED=1)'
+	@echo 'make edits    docs/EDITS.md: where each wrong program is refused, from the logs of make test'
 	@echo 'make clean    remove build/ and target/'
 
 # Nothing may come after rt ci: its last line is the last of the run.
@@ -41,6 +43,10 @@ build/libborder.a: FORCE
 	@mkdir -p build
 	@cmp -s target/staticlib/libborder.a $@ || cp target/staticlib/libborder.a $@
 
+# After make test, whose logs it reads.
+edits:
+	tools/edits
+
 # C and Rust are told what the source says.
 header:
 	tools/header_check_test
@@ -53,7 +59,7 @@ demo: native
 wrapper: native
 	folder="$$PWD/build/native" && cd rust && NOUSTREL_LIB="$$folder" cargo test -q --offline --target-dir ../build/rust
 
-PROGRAMS = vectors hmac_vectors sm4_vectors sm4_published key_schedule_vectors record_vectors step_vectors opening_vectors
+PROGRAMS = vectors hmac_vectors sm4_vectors sm4_published key_schedule_vectors record_vectors step_vectors opening_vectors replay
 vectors:
 	rt check $(PROGRAMS)
 	@mkdir -p build
@@ -97,15 +103,42 @@ differential-long: oracle port
 teeth: port
 	differential/teeth $(RUST_SRC) build/port build/teeth
 
-bench: NATIVE = border sm4_timing
-bench: workspace native
-	@$(CC) -O3 -c bench/scan.c -o build/native/scan.o && ar crs build/native/libscan.a build/native/scan.o
-	NOUSTREL_LIB="$$PWD/build/native" && export NOUSTREL_LIB && $(CARGO) -p noustrel-bench
-	build/oracle/target/release/noustrel-bench
+# OpenSSL and libgcrypt are timed beside ours, and SM4 also beside a scan in plain C, by two compilers.
+BESIDE = build/timing/beside.o build/timing/thread.o build/timing/scan-gcc.o build/timing/scan-clang.o
+KIT_CLANG = $$(dirname "$$(dirname "$$(rt doc)")")/on/$$(uname -m)/toolchain/bin/clang
+bench: bench-packages workspace
+	@mkdir -p build/timing
+	@for crate in border sm4_timing; do \
+	    if [ "$$(uname -m)" = x86_64 ]; then rt staticlib $$crate && cp target/staticlib/lib$$crate.a build/timing/; \
+	    else bench/native $$crate build/timing/lib$$crate.a timing; fi || exit 1; done
+	@cmp -s bench/src/calls.rs build/oracle/bench/src/calls.rs || cp bench/src/calls.rs build/oracle/bench/src/
+	@$(CC) -O2 -Wall -Wextra -c bench/beside.c -o build/timing/beside.o
+	@$(CC) -O2 -Wall -Wextra -c bench/thread.c -o build/timing/thread.o
+	@$(CC) -O3 -DSCAN=gcc -c bench/scan.c -o build/timing/scan-gcc.o
+	@$(KIT_CLANG) --target="$$(uname -m)-unknown-linux-gnu" --no-default-config -fPIC -O3 -DSCAN=clang -c bench/scan.c \
+	    -o build/timing/scan-clang.o
+	@rm -f build/timing/libbeside.a && ar crs build/timing/libbeside.a $(BESIDE)
+	NOUSTREL_LIB="$$PWD/build/timing" && export NOUSTREL_LIB && $(CARGO) -p noustrel-bench
+	build/oracle/target/release/noustrel-bench build/bench.tsv
+	bench/plot build/bench.tsv docs/bench.svg
+
+bench-packages:
+	@for header in openssl/evp.h gcrypt.h; do echo "#include <$$header>" | $(CC) -E - >/dev/null 2>&1 || \
+	    { echo "make bench: no $$header: install libssl-dev and libgcrypt20-dev (Debian's names)" >&2; exit 1; }; done
 
 # What is claimed of the machine code, for this compiler's output: docs/BENCHMARKS.md.
+ct: NATIVE = border probes
 ct: native
 	ct/run build
+
+# Random calls at the C border, each span between guard pages; first the faults that must be caught.
+SECONDS = 60
+SEED = 1
+fuzz: native
+	@mkdir -p build/fuzz
+	$(CC) -std=c99 -O2 -g -Wall -Wextra -Iinclude fuzz/*.c build/native/libborder.a -lcrypto -o build/fuzz/driver
+	build/fuzz/driver teeth
+	build/fuzz/driver $(SECONDS) $(SEED)
 
 workspace:
 	oracle/prepare $(RUST_SRC) build

@@ -1,8 +1,11 @@
-/* SM4-CBC in plain C with the same S-box lookup as ours, a masked pass over the whole table, for a third time beside the
-   two. Written for this comparison; the program checks that it agrees with both. */
-#include <stddef.h>
-#include <stdint.h>
-#include <string.h>
+/* SM4 in plain C with the same S-box lookup as ours, a masked pass over the whole table, for another time beside the others.
+   Written for this comparison; the program checks that it agrees with them. Compiled twice, with SCAN=gcc and SCAN=clang for
+   the names. No header is used, since the kit's clang has none. */
+typedef __UINT8_TYPE__ uint8_t;
+typedef __UINT32_TYPE__ uint32_t;
+typedef __SIZE_TYPE__ size_t;
+#define JOIN(a, b) a##b
+#define NAME(a, b) JOIN(a, b)
 
 static const uint8_t S_BOX[256] = {
     0xd6, 0x90, 0xe9, 0xfe, 0xcc, 0xe1, 0x3d, 0xb7, 0x16, 0xb6, 0x14, 0xc2, 0x28, 0xfb, 0x2c, 0x05,
@@ -61,12 +64,12 @@ static void expand(const uint8_t key[16], uint32_t rk[32]) {
     }
 }
 
-static void encrypt(const uint32_t rk[32], uint8_t block[16]) {
+static void crypt(const uint32_t rk[32], int back, uint8_t block[16]) {
     uint32_t x[4];
     for (int i = 0; i < 4; i++)
         x[i] = load(block + 4 * i);
     for (int i = 0; i < 32; i++) {
-        uint32_t b = tau(x[1] ^ x[2] ^ x[3] ^ rk[i]);
+        uint32_t b = tau(x[1] ^ x[2] ^ x[3] ^ rk[back ? 31 - i : i]);
         uint32_t next = x[0] ^ b ^ rotl(b, 2) ^ rotl(b, 10) ^ rotl(b, 18) ^ rotl(b, 24);
         x[0] = x[1], x[1] = x[2], x[2] = x[3], x[3] = next;
     }
@@ -74,15 +77,24 @@ static void encrypt(const uint32_t rk[32], uint8_t block[16]) {
         store(block + 4 * i, x[3 - i]);
 }
 
-void scan_sm4_cbc(const uint8_t *key, const uint8_t *iv, uint8_t *body, size_t len) {
+/* The key expansion, and CBC in place over a body. An empty body times the expansion alone. */
+void NAME(SCAN, _sm4_cbc)(const uint8_t *key, const uint8_t *iv, uint8_t *body, size_t len) {
     uint32_t rk[32];
-    uint8_t prev[16];
+    const uint8_t *prev = iv;
     expand(key, rk);
-    memcpy(prev, iv, 16);
     for (size_t at = 0; at + 16 <= len; at += 16) {
         for (int i = 0; i < 16; i++)
             body[at + i] ^= prev[i];
-        encrypt(rk, body + at);
-        memcpy(prev, body + at, 16);
+        crypt(rk, 0, body + at);
+        prev = body + at;
     }
+}
+
+/* The key expansion and one block, enciphered, or deciphered where back is 1. */
+void NAME(SCAN, _sm4_block)(const uint8_t *key, int back, const uint8_t *block, uint8_t *out) {
+    uint32_t rk[32];
+    expand(key, rk);
+    for (int i = 0; i < 16; i++)
+        out[i] = block[i];
+    crypt(rk, back, out);
 }

@@ -1,2 +1,3 @@
+mod Blocks
 pub mod OneOutcome
 mod Sizes

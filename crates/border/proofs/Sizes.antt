@@ -1,16 +1,12 @@
 -- What the tests of sizes say when they pass. Assumes nothing.
-use mathlib.Core.Bool.{Bool, true, false, _&&_}
+use mathlib.Core.Bool.{true, _&&_}
 use mathlib.Core.List.{List}
-use mathlib.Core.Path.{_≡_, refl}
+use mathlib.Core.Path.{_≡_}
 use Prim.Native.Nat.{ℕ}
 use borrow.Author.Tests.{eqb-true}
 use lib.ListN.{length}
+use Rattle.words.proofs.Tests.{both}
 use Rattle.border.specs.Border.{has, keySizes, blockSizes}
-
--- both of two tests that pass together
-pub both : (a b : Bool) → (a && b) ≡ true → (a ≡ true) × (b ≡ true)
-both true b e = (refl, e)
-both false b e = (e, cc)
 
 -- of the size asked
 pub is-long : (n : ℕ) (x : List ℕ) → has n x ≡ true → length x ≡ n

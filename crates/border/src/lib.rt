@@ -136,7 +136,7 @@ pub extern "C" fn noustrel_seal(
         return WRONG_SIZE as u32;
     }
     let keys = keys_from(mac_key, enc_key);
-    let high_first = words::u16_to_be_bytes(version);
+    let high_first = big_endian::u16_to_be_bytes(version);
     let start = array_16(iv);
     let sealed = record::protect_cbc(keys, number, content_type, high_first, start, text, out);
     *length = sealed.length;
@@ -165,7 +165,7 @@ pub extern "C" fn noustrel_open(
         return WRONG_SIZE as u32;
     }
     let keys = keys_from(mac_key, enc_key);
-    let high_first = words::u16_to_be_bytes(version);
+    let high_first = big_endian::u16_to_be_bytes(version);
     let opened = opening::deprotect_cbc(keys, number, content_type, high_first, record, out);
     *length = opened.length;
     *count = opened.count;

@@ -10,6 +10,8 @@ use Rattle.steps.proofs.OneOutcome.{Step-one-outcome}
 use Rattle.opening.proofs.OneOutcome.{Deprotected-one-outcome}
 use Rattle.border.proofs.OneOutcome.{Hashed-one-outcome, Maced-one-outcome, SealedFor-one-outcome, OpenedFor-one-outcome, Enciphered-one-outcome as EncipheredFor-one-outcome, Deciphered-one-outcome as DecipheredFor-one-outcome, MasterSecretFor-one-outcome, KeyBlockFor-one-outcome, FinishedFor-one-outcome, StartedFor-one-outcome, TakenFor-one-outcome, DigestedFor-one-outcome}
 use Rattle.probes.proofs.OneOutcome.{MacedParts-one-outcome}
+use Rattle.programs.proofs.OneOutcome.{Spread-one-outcome}
+use Rattle.protocol.proofs.OneOutcome.{Decoded-one-outcome}
 use Rattle.demands.specs.Outcomes.{Outcomes}
 
 pub outcomes : Outcomes
@@ -43,4 +45,6 @@ outcomes =
       «noustrel_sm3_update» = λ h part a b x y. TakenFor-one-outcome;
       «noustrel_sm3_finish» = λ h digest a b x y. DigestedFor-one-outcome;
       «probe_hmac_parts» = λ key first second third out a b x y. MacedParts-one-outcome;
+      decode = λ line k out n m x y. Decoded-one-outcome;
+      spread = λ step first out x y. Spread-one-outcome;
     }

@@ -19,6 +19,8 @@ use Rattle.steps.specs.Promise.{Step}
 use Rattle.opening.specs.Promise.{Deprotected}
 use Rattle.border.specs.Promise.{Hashed, Maced, SealedFor, OpenedFor, Enciphered as EncipheredFor, Deciphered as DecipheredFor, MasterSecretFor, KeyBlockFor, FinishedFor, StartedFor, TakenFor, DigestedFor}
 use Rattle.probes.specs.Promise.{MacedParts}
+use Rattle.programs.specs.Promise.{Spread}
+use Rattle.protocol.specs.Promise.{Decoded}
 
 -- what is lent has one final content
 abbrev pub One : {A : Type 0} → (A → Type 0) → Type 0
@@ -72,3 +74,7 @@ pub record Outcomes : Type 0 where
   pub «noustrel_sm3_finish» : (h : Sm3) (digest : List ℕ) → Two (DigestedFor h digest)
   -- probes
   pub «probe_hmac_parts» : (key first second third out : List ℕ) → Two (MacedParts key first second third out)
+  -- protocol
+  pub decode : (line : List ℕ) (k : ℕ) (out : List ℕ) → Two (Decoded line k out)
+  -- programs
+  pub spread : (step first : ℕ) (out : List ℕ) → One (Spread step first out)

@@ -75,7 +75,7 @@ pub fn ct_eq(a: [u8; 32], b: [u8; 32]) -> u8
     for i in 0..32 {
         differ = differ | (a[i] ^ b[i]);
     }
-    words::ct_eq_u8(differ, 0)
+    masks::ct_eq_u8(differ, 0)
 }
 
 impl HmacSm3 {
@@ -146,7 +146,7 @@ impl HmacSm3 {
         let computed = self.finalize();
         let answer = computed.answer;
         let bytes = computed.bytes;
-        let yes = words::ct_eq_u8(answer, DONE) & ct_eq(bytes, expected);
+        let yes = masks::ct_eq_u8(answer, DONE) & ct_eq(bytes, expected);
         Verified {
             answer,
             matches: yes == 1,

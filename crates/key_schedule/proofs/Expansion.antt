@@ -69,11 +69,3 @@ module _ (M : List ℕ → List ℕ → List ℕ) (secret seed : List ℕ) where
         let e : n ≡ length first + (n - 32) = omega (arith, digest (a ++ seed)) in
         rw (blocks-more n h, join-front a (blocks (n - 32)))
         (ap (λ (k : ℕ). take k (first ++ others)) e ∙ take-append-add first others (n - 32))
-
-    -- the same of P_hash
-    pub P-hash-last : (n : ℕ) → n ≤ 32 → P-hash M secret seed n ≡ take n (M secret (M secret seed ++ seed))
-    P-hash-last n h = P-hash-start n ∙ rest-last (M secret seed) n h
-
-    pub P-hash-more : (n : ℕ) → 32 < n
-        → P-hash M secret seed n ≡ M secret (M secret seed ++ seed) ++ rest M secret seed (M secret (M secret seed)) (n - 32)
-    P-hash-more n h = P-hash-start n ∙ rest-more (M secret seed) n h

@@ -1,10 +1,11 @@
 // Runs the three derivations on right lengths and on lengths one off, and writes what each answers and leaves in its output,
 // one line each. The file stdout has the values of OpenSSL, which the script `expected` gathers.
-ghost use Prim.Native.Nat.{_≤_, _<_};
-ghost use mathlib.Core.Path.{_≡_};
-ghost use lib.ListN.{length};
+ghost use Prim.Native.Nat.{_≤_};
 use key_schedule::TlcpRole;
-use libc::STDOUT_FILENO;
+use programs::line;
+use programs::number;
+use programs::spread;
+use programs::text;
 
 enum Derivation {
     MasterSecret,
@@ -13,56 +14,14 @@ enum Derivation {
     ServerFinished,
 }
 
-fn text(s: &[u8]) {
-    io::write_all(STDOUT_FILENO, s);
-}
-
-fn wide(x: u8) -> u64
-    ensures { λ r. ⌜ r < 256 ⌝ }
-{
-    x as u64
-}
-
-// n in decimal, behind a space or the label's dash.
-fn number(before: &[u8], n: u64) {
-    text(before);
-    io::print_decimal(STDOUT_FILENO, n);
-}
-
 // The rest of a line: the answer, and the bytes in hexadecimal, or a dash for none.
-fn line(answer: u8, bytes: &[u8]) {
-    number(b" ", wide(answer));
-    text(b" ");
+fn answered(answer: u8, bytes: &[u8]) {
+    number(b" ", answer as u64);
     if bytes.len() == 0 {
-        text(b"-");
+        text(b" -\n");
+    } else {
+        line(b"", bytes);
     }
-    for i in 0..bytes.len() {
-        io::print_hex(STDOUT_FILENO, wide(bytes[i]), 2);
-    }
-    text(b"\n");
-}
-
-// Byte i is 11 i + first: no two inputs begin with the same byte.
-fn input(first: u8) -> [u8; 64]
-    ensures { λ r. ⌜ length r ≡ 64 ⌝ }
-{
-    let start = wide(first) as usize;
-    let mut m = [0u8; 64];
-    for i in 0..64 {
-        m[i] = ((11 * i + start) % 256) as u8;
-    }
-    m
-}
-
-// What an output is filled with beforehand: byte i is 7 i + 3.
-fn found() -> [u8; 1025]
-    ensures { λ r. ⌜ length r ≡ 1025 ⌝ }
-{
-    let mut m = [0u8; 1025];
-    for i in 0..1025 {
-        m[i] = ((7 * i + 3) % 256) as u8;
-    }
-    m
 }
 
 fn name(d: Derivation) {
@@ -96,17 +55,21 @@ fn show(d: Derivation, secret: &[u8], first: &[u8], second: &[u8], out: &mut [u8
     number(b"-", second.len() as u64);
     number(b"-", out.len() as u64);
     let answer = derived(d, secret, first, second, out);
-    line(answer, out);
+    answered(answer, out);
 }
 
-// A derivation on lengths.
+// A derivation on lengths: no two inputs begin with the same byte, and the output is filled beforehand.
 fn run(d: Derivation, secret: usize, first: usize, second: usize, n: usize)
     requires { ⌜ (secret ≤ 64) × (first ≤ 64) × (second ≤ 64) × (n ≤ 1025) ⌝ }
 {
-    let a = input(1);
-    let b = input(2);
-    let c = input(3);
-    let mut out = found();
+    let mut a = [0u8; 64];
+    let mut b = [0u8; 64];
+    let mut c = [0u8; 64];
+    let mut out = [0u8; 1025];
+    spread(11, 1, &mut a);
+    spread(11, 2, &mut b);
+    spread(11, 3, &mut c);
+    spread(7, 3, &mut out);
     show(d, &a[..secret], &b[..first], &c[..second], &mut out[..n]);
 }
 

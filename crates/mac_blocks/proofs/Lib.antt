@@ -1,4 +1,3 @@
 pub mod Byte
-pub mod Choice
 pub mod Outer
 pub mod Schedule

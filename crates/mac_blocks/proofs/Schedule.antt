@@ -9,7 +9,7 @@ use borrow.Author.Tests.{leb-true, leb-false, eqb-true, eqb-false, le-leb, lt-le
 use lib.Arith.{lt-of-le-ne}
 use lib.Dec.{leb, eqb}
 use lib.ListN.{length, getD, replicate, List·getD-eq-default}
-use Rattle.words.proofs.Lists.{length-table, table-ext, as-table, length-block, getD-block, getD-replicate-self}
+use Rattle.words.proofs.Lists.{table-ext, as-table, length-block, getD-block, getD-replicate-self}
 use Rattle.words.specs.Lists.{block}
 use Rattle.sm3_compress.specs.Standard.{CF}
 use Rattle.sm3.specs.Standard.{iterated, iteration, bytesOf, SM3}
@@ -17,11 +17,6 @@ use Rattle.hmac.proofs.Mac.{inner-block, outer-block, mac-blocks}
 use Rattle.hmac.specs.Rfc2104.{HMAC}
 use Rattle.mac_blocks.specs.Schedule.{ended, byteAt, schedule, final, absorbed, innerKey, outerKey, outerDigest}
 use Rattle.mac_blocks.proofs.Byte.{length-ended}
-
--- a block has 64 bytes
-pub length-schedule : (m : List ℕ) (b : ℕ) → length (schedule m b) ≡ 64
-unfolding schedule
-length-schedule m b = length-table (byteAt m b) 64
 
 -- behind the final block all bytes are zero
 pub schedule-zero : (m : List ℕ) (b : ℕ) → final m < b → schedule m b ≡ replicate 64 0

@@ -12,9 +12,9 @@ ghost use Rattle.words.specs.Lists.{xorEach};
 ghost use Rattle.sm3.specs.Standard.{count, SM3};
 ghost use Rattle.hmac.specs.Rfc2104.{K′};
 ghost use Rattle.mac_blocks.specs.Schedule.{byteAt, schedule, innerKey, innerBlock, outerKey, outerDigest};
+use masks::select_u32;
 use sm3::BLOCK_SIZE;
 use sm3_compress::compress;
-use words::select_u32;
 
 const HEADER_LEN: usize = 13;
 
@@ -52,7 +52,16 @@ pub fn inner_key(mac_key: [u8; 32]) -> [u32; 8]
 fn held_of(plaintext_len: usize, lent: usize) -> usize
     ensures { λ r. ⌜ r ≡ min «plaintext_len» lent ⌝ }
 {
-    words::select_usize(plaintext_len, lent, words::ct_lt_usize(lent, plaintext_len))
+    masks::select_usize(plaintext_len, lent, masks::ct_lt_usize(lent, plaintext_len))
+}
+
+// 1 where d is 0, else 0: the sum of its halves taken off 2^33. Of a comparison that chooses between eight words (`keep`), the
+// compiler makes a branch for x86-64.
+fn is_zero(d: usize) -> u8
+    ensures { λ r. ⌜ r ≡ bit (eqb d 0) ⌝ }
+{
+    let halves = (d >> 32) + (d % 0x1_0000_0000);
+    ((0x2_0000_0000 - halves) >> 33) as u8
 }
 
 // 1 where block b is the final one, which has room for the count behind the text and 0x80; else 0. The block's number is
@@ -61,14 +70,14 @@ fn is_final(held: usize, b: usize) -> u8
     requires { ⌜ held < 2 ^ 63 ⌝ }
     ensures { λ r. ⌜ r ≡ bit (eqb b ((13 + held + 8) / 64)) ⌝ }
 {
-    words::ct_eq_usize(b, (HEADER_LEN + held + 8) >> 6)
+    is_zero(b ^ ((HEADER_LEN + held + 8) >> 6))
 }
 
 // The number of bits of total bytes, modulo 2^64, in 8 bytes.
 fn count_of(total: usize) -> [u8; 8]
     ensures { λ r. ⌜ r ≡ count total ⌝ }
 {
-    words::u64_to_be_bytes((total as u64) << 3)
+    big_endian::u64_to_be_bytes((total as u64) << 3)
 }
 
 // Byte p of header and data, zero behind them: p and the lengths are public.
@@ -90,8 +99,8 @@ fn text_byte(header: [u8; 13], data: &[u8], held: usize, p: usize) -> u8
     ensures { λ r. ⌜ r ≡ getD ((header ++ take held (now («data» .entry))) ++ (0x80 ∷ [])) p 0 ⌝ }
 {
     let end = HEADER_LEN + held;
-    let text = words::select_u8(0, candidate(header, data, p), words::ct_lt_usize(p, end));
-    words::select_u8(text, 0x80, words::ct_eq_usize(p, end))
+    let text = masks::select_u8(0, candidate(header, data, p), masks::ct_lt_usize(p, end));
+    masks::select_u8(text, 0x80, masks::ct_eq_usize(p, end))
 }
 
 // The count of all bytes where block b is the final one, else zeros. It is chosen once for a block: a choice inside the loop over
@@ -102,8 +111,8 @@ fn count_in(held: usize, b: usize) -> [u8; 8]
 {
     // the key's block is counted too
     let bits = (BLOCK_SIZE + HEADER_LEN + held) << 3;
-    let chosen = words::select_usize(0, bits, is_final(held, b));
-    words::u64_to_be_bytes(chosen as u64)
+    let chosen = masks::select_usize(0, bits, is_final(held, b));
+    big_endian::u64_to_be_bytes(chosen as u64)
 }
 
 // Byte i of block b, which has this count in it or zeros: no byte of text or 0x80 stands where a count does.

@@ -1,56 +1,19 @@
 // Opens records by the one call: every length of padding, the sizes about each limit, texts longer than what is sealed, wrong
 // padding, wrong MACs, headers of another record, and rooms. A line has the answer, the length, the count and a digest of the
 // whole output. The file stdout has the values of other implementations, which the script `expected` gathers.
-ghost use Prim.Native.Nat.{_≤_, _<_};
+ghost use Prim.Native.Nat.{_≤_};
 ghost use lib.ListN.{length};
-use libc::STDOUT_FILENO;
 use opening::Opened;
+use programs::label;
+use programs::line;
+use programs::number;
+use programs::spread;
 use record::RecordKeysCbc;
 use sm4::Sm4Cipher;
 
 const NUMBER: u64 = 0x0102_0304_0506_0708;
 
 const TYPE: u8 = 23;
-
-fn text(s: &[u8]) {
-    io::write_all(STDOUT_FILENO, s);
-}
-
-fn wide(x: u8) -> u64
-    ensures { λ r. ⌜ r < 256 ⌝ }
-{
-    x as u64
-}
-
-// n in decimal, behind a space or the label's dash.
-fn number(before: &[u8], n: u64) {
-    text(before);
-    io::print_decimal(STDOUT_FILENO, n);
-}
-
-// A label with two numbers.
-fn label(name: &[u8], a: usize, b: usize) {
-    text(name);
-    number(b"-", a as u64);
-    number(b"-", b as u64);
-}
-
-// A space, and the bytes in hexadecimal.
-fn hex(bytes: &[u8]) {
-    text(b" ");
-    for i in 0..bytes.len() {
-        io::print_hex(STDOUT_FILENO, wide(bytes[i]), 2);
-    }
-}
-
-// Byte i of out is made step i + first, modulo 256.
-fn spread(step: u8, first: u8, out: &mut [u8]) {
-    let mut x = first;
-    for i in 0..out.len() {
-        out[i] = x;
-        x = std::num::wrapping_add_u8(x, step);
-    }
-}
 
 fn keys() -> RecordKeysCbc {
     let mut key_block = [0u8; 128];
@@ -122,13 +85,11 @@ fn sealed(n: usize, len: usize, padlen: u8, at: usize, mask: u8, record: &mut [u
 
 // The rest of a line: the report and the digest of the output.
 fn reported(o: Opened, out: &[u8]) {
-    number(b" ", wide(o.answer));
+    let digest = sm3::hash(out).bytes;
+    number(b" ", o.answer as u64);
     number(b" ", o.length as u64);
     number(b" ", o.count as u64);
-    let d = sm3::hash(out);
-    let bytes = d.bytes;
-    hex(&bytes);
-    text(b"\n");
+    line(b"", &digest);
 }
 
 // The rest of a line: a record opened into an output that held another pattern.

@@ -1,4 +1,3 @@
 pub mod Gather
-pub mod Masks
 mod Reach
 mod Report

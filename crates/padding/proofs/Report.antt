@@ -10,9 +10,9 @@ use lib.Bits.{bitAnd}
 use lib.Dec.{eqb, ltb}
 use lib.ListN.{length}
 use Rattle.words.specs.Choice.{bit, chosen}
+use Rattle.words.proofs.Choice.{both-bits, chosen-bit}
 use Rattle.record.specs.Opened.{lastByte, padFits, goodPad, held}
 use Rattle.record.proofs.Accepts.{good-parts, held-good, held-bad}
-use Rattle.padding.proofs.Masks.{both-bits, chosen-bit}
 
 module _ (d : List ℕ) where
   -- no room for a MAC and a length byte: no padding is good

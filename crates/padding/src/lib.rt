@@ -26,8 +26,8 @@ fn window(n: usize) -> usize
 fn differs(byte: u8, padlen: u8, i: usize) -> u8
     ensures { λ r. ⌜ r ≡ cond (ltb i (padlen + 1)) (byte ⊕ padlen) 0 ⌝ }
 {
-    let in_pad = words::ct_lt_usize(i, (padlen as usize) + 1);
-    words::select_u8(0, byte ^ padlen, in_pad)
+    let in_pad = masks::ct_lt_usize(i, (padlen as usize) + 1);
+    masks::select_u8(0, byte ^ padlen, in_pad)
 }
 
 // The differences of the bytes that the padding reaches, ORed: 0 where a padding that fits is good. The window is public: the
@@ -56,11 +56,11 @@ pub fn check_tls_padding_ct(body: &[u8]) -> Padding
     }
     let padlen = body[n - 1];
     let p = padlen as usize;
-    let fits = words::ct_lt_usize(p, n - MAC_LEN);
-    let pad_ok = fits & words::ct_eq_u8(differences(body, padlen), 0);
+    let fits = masks::ct_lt_usize(p, n - MAC_LEN);
+    let pad_ok = fits & masks::ct_eq_u8(differences(body, padlen), 0);
     // p may be above what is left of the body: it is taken off only where the padding is good.
     let most = n - (MAC_LEN + 1);
-    let pad = words::select_usize(0, p, pad_ok);
+    let pad = masks::select_usize(0, p, pad_ok);
     let held = most - pad;
     Padding { pad_ok, held }
 }

@@ -1,6 +1,6 @@
 -- A deciphered body is accepted exactly if it is a text, its MAC and padding, and then the text and the padding's length are
 -- the only ones. Assumes nothing.
-use mathlib.Core.Bool.{Bool, true, false, _&&_}
+use mathlib.Core.Bool.{true, false}
 use mathlib.Core.List.{List, _++_, append-assoc}
 use mathlib.Core.Logic.{_↔_}
 use mathlib.Core.Path.{_≡_, refl, sym, ap, ap₂, _∙_}
@@ -14,13 +14,9 @@ use Rattle.words.specs.Bytes.{Bytes}
 use Rattle.words.specs.Lists.{agree}
 use Rattle.words.proofs.Agree.{agree-refl, agree-eq}
 use Rattle.words.proofs.Lists.{drop-constant}
+use Rattle.words.proofs.Tests.{both}
 use Rattle.record.specs.Opened.{lastByte, padFits, padRun, goodPad, held, textIn, macIn, accepts}
 use Rattle.record.specs.Standard.{padding, bodyOf}
-
--- both tests of a conjunction hold
-both : (a b : Bool) → (a && b) ≡ true → (a ≡ true) × (b ≡ true)
-both true b e = (refl, e)
-both false b e = (e, cc)
 
 -- ---- good padding
 
@@ -156,11 +152,6 @@ module _ (tag : List ℕ → List ℕ) (size : (t : List ℕ) → length (tag t)
   -- what is a body is accepted
   pub body-is-accepted : (d : List ℕ) → (text : List ℕ) × (p : ℕ) × (p ≤ 255) × (d ≡ bodyOf tag text p) → accepts tag d ≡ true
   body-is-accepted d (text, p, b, e) = rw e (accepts-body text p)
-
-  -- and its parts are that text, that padding length, and nothing else
-  pub body-parts : (d text : List ℕ) (p : ℕ) → d ≡ bodyOf tag text p
-      → (textIn d ≡ text) × (lastByte d ≡ p) × (length d ≡ length text + 33 + p)
-  body-parts d text p e = rw e (text-body text p, last-body text p, length-body text p)
 
   -- one text and one padding length to a body
   pub body-unique : (text text′ : List ℕ) (p p′ : ℕ) → bodyOf tag text p ≡ bodyOf tag text′ p′ → (text ≡ text′) × (p ≡ p′)

@@ -1,5 +1,4 @@
 -- The sealed record: how long it is, and that deciphering gives back the body that was enciphered. Assumes nothing.
-use mathlib.Core.Bool.{true}
 use mathlib.Core.List.{List, _++_}
 use mathlib.Core.Path.{_≡_, ap, _∙_}
 use Prim.Native.Nat.{ℕ, zero, suc, _+_, _*_, _/_, _%_}
@@ -21,9 +20,8 @@ use Rattle.cbc.proofs.Cbc.{cbc-dec-enc}
 use Rattle.cbc.proofs.Sm4.{enciphers}
 use Rattle.record.specs.declared.RecordKeysCbc.{RecordKeysCbc}
 use Rattle.record.specs.Limits.{MAC-LEN, IV-LEN}
-use Rattle.record.specs.Opened.{textIn, accepts}
 use Rattle.record.specs.Standard.{tagOf, padding, bodyOf, padOf, sealedBy, sealedRecord, sealedLength}
-use Rattle.record.proofs.Accepts.{length-body, text-body, accepts-body}
+use Rattle.record.proofs.Accepts.{length-body}
 
 -- ---- the record's MAC
 
@@ -117,12 +115,3 @@ module _ (keys : RecordKeysCbc) (seq type : ℕ) (version iv text : List ℕ) wh
       let rks = roundKeys (keys .«enc_key») in
       opened-body (tagOf (keys .«mac_key») seq type version) (length-tag (keys .«mac_key») seq type version) text
       (encrypt rks) (decrypt rks) (enciphers rks) iv hiv bt (bytes-tag (keys .«mac_key») seq type version text)
-
-  -- which is accepted, and holds that text
-  pub accepted-sealedRecord : Block iv → Bytes text →
-      let d = cbcDec (decrypt (roundKeys (keys .«enc_key»))) iv (drop IV-LEN (sealedRecord keys seq type version iv text)) in
-      (accepts (tagOf (keys .«mac_key») seq type version) d ≡ true) × (textIn d ≡ text)
-  accepted-sealedRecord hiv bt =
-      let tag = tagOf (keys .«mac_key») seq type version in
-      let size = length-tag (keys .«mac_key») seq type version in
-      rw (opened-sealedRecord hiv bt) (accepts-body tag size text (padOf (length text)), text-body tag size text (padOf (length text)))

@@ -110,8 +110,8 @@ impl RecordKeysCbc {
 pub fn record_header(seq: u64, content_type: u8, version: [u8; 2], len: u16) -> [u8; 13]
     ensures { λ r. ⌜ r ≡ header seq «content_type» version len ⌝ }
 {
-    let number = words::u64_to_be_bytes(seq);
-    let length = words::u16_to_be_bytes(len);
+    let number = big_endian::u64_to_be_bytes(seq);
+    let length = big_endian::u16_to_be_bytes(len);
     let mut h = [0u8; HEADER_LEN];
     words::copy_at(&mut h, 0, &number);
     h[8] = content_type;

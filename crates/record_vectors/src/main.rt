@@ -1,47 +1,15 @@
 // Takes the halves of a key block and seals texts about the ends of blocks and of the limit, and writes what is answered,
 // one line each. The file stdout has the values of other implementations, which the script `expected` gathers.
-ghost use Prim.Native.Nat.{_<_, _≤_};
-ghost use mathlib.Core.Path.{_≡_};
-ghost use lib.ListN.{length};
+ghost use Prim.Native.Nat.{_≤_};
 use key_schedule::TlcpRole;
-use libc::STDOUT_FILENO;
+use programs::hex;
+use programs::label;
+use programs::line;
+use programs::number;
+use programs::spread;
+use programs::text;
 use record::Halved;
 use record::RecordKeysCbc;
-
-fn text(s: &[u8]) {
-    io::write_all(STDOUT_FILENO, s);
-}
-
-fn wide(x: u8) -> u64
-    ensures { λ r. ⌜ r < 256 ⌝ }
-{
-    x as u64
-}
-
-// n in decimal, behind a space or the label's dash.
-fn number(before: &[u8], n: u64) {
-    text(before);
-    io::print_decimal(STDOUT_FILENO, n);
-}
-
-// A space, and the bytes in hexadecimal.
-fn hex(bytes: &[u8]) {
-    text(b" ");
-    for i in 0..bytes.len() {
-        io::print_hex(STDOUT_FILENO, wide(bytes[i]), 2);
-    }
-}
-
-// Byte i is 7 i + 3, modulo 256.
-fn pattern() -> [u8; 16385]
-    ensures { λ r. ⌜ length r ≡ 16385 ⌝ }
-{
-    let mut m = [0u8; 16385];
-    for i in 0..16385 {
-        m[i] = ((7 * i + 3) % 256) as u8;
-    }
-    m
-}
 
 // A line: the length of the key block, the answer and the keys.
 fn half(name: &[u8], n: usize, h: Halved) {
@@ -50,10 +18,9 @@ fn half(name: &[u8], n: usize, h: Halved) {
     let enc_key = keys.enc_key;
     text(name);
     number(b"-", n as u64);
-    number(b" ", wide(h.answer));
+    number(b" ", h.answer as u64);
     hex(&mac_key);
-    hex(&enc_key);
-    text(b"\n");
+    line(b"", &enc_key);
 }
 
 // The halves of a key block, by name and by role.
@@ -75,33 +42,18 @@ fn halves(key_block: &[u8]) {
 
 // The halves of the pattern's first n bytes.
 fn halves_of(n: usize)
-    requires { ⌜ n ≤ 16385 ⌝ }
+    requires { ⌜ n ≤ 129 ⌝ }
 {
-    let m = pattern();
+    let mut m = [0u8; 129];
+    spread(7, 3, &mut m);
     halves(&m[..n]);
 }
 
 // A line: plaintext sealed into out. The lengths of both, the answer, the reported length, and all of out afterwards, or
 // its digest where it is long.
 fn sealed(keys: RecordKeysCbc, plaintext: &[u8], out: &mut [u8]) {
-    let iv = [
-        0x0f,
-        0x1e,
-        0x2d,
-        0x3c,
-        0x4b,
-        0x5a,
-        0x69,
-        0x78,
-        0x87,
-        0x96,
-        0xa5,
-        0xb4,
-        0xc3,
-        0xd2,
-        0xe1,
-        0xf0,
-    ];
+    let mut iv = [0u8; 16];
+    spread(15, 15, &mut iv);
     let s = record::protect_cbc(
         keys,
         0x0102_0304_0506_0708,
@@ -111,26 +63,24 @@ fn sealed(keys: RecordKeysCbc, plaintext: &[u8], out: &mut [u8]) {
         plaintext,
         out,
     );
-    text(b"seal");
-    number(b"-", plaintext.len() as u64);
-    number(b"-", out.len() as u64);
-    number(b" ", wide(s.answer));
+    label(b"seal", plaintext.len(), out.len());
+    number(b" ", s.answer as u64);
     number(b" ", s.length as u64);
     if out.len() <= 96 {
-        hex(out);
+        line(b"", out);
     } else {
-        let d = sm3::hash(out);
-        let bytes = d.bytes;
-        hex(&bytes);
+        let bytes = sm3::hash(out).bytes;
+        line(b"", &bytes);
     }
-    text(b"\n");
 }
 
-// The pattern's first n bytes sealed under the keys of a role, into room bytes that held 0xee before.
+// The pattern's first n bytes sealed under the keys of a role, into room bytes that held 0xee before. Its first 128 bytes are the
+// key block.
 fn seal(role: TlcpRole, n: usize, room: usize)
     requires { ⌜ (n ≤ 16385) × (room ≤ 16464) ⌝ }
 {
-    let m = pattern();
+    let mut m = [0u8; 16385];
+    spread(7, 3, &mut m);
     let mut out = [0xeeu8; 16464];
     let h = RecordKeysCbc::from_key_block(role, &m[..128]);
     let keys = h.keys;

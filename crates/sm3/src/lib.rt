@@ -104,7 +104,7 @@ fn put_count(block: [u8; 64], total: u64) -> [u8; 64]
     ensures { λ r. ⌜ r ≡ take 56 block ++ count total ⌝ }
 {
     let mut last = block;
-    let bytes = words::u64_to_be_bytes(total << 3);
+    let bytes = big_endian::u64_to_be_bytes(total << 3);
     words::copy_at(&mut last, 56, &bytes);
     last
 }
@@ -115,7 +115,7 @@ pub fn digest_of(v: [u32; 8]) -> [u8; DIGEST_SIZE]
 {
     let mut out = [0u8; DIGEST_SIZE];
     for i in 0..8 {
-        let bytes = words::u32_to_be_bytes(v[i]);
+        let bytes = big_endian::u32_to_be_bytes(v[i]);
         words::copy_at(&mut out, i * 4, &bytes);
     }
     out

@@ -1,15 +1,14 @@
--- Laws of the standard's definitions: what word j of the expansion looks at, and that the
--- state keeps eight words. Assumes nothing.
-use mathlib.Core.Path.{_≡_, refl, sym, _∙_}
+-- Laws of the standard's definitions: what word j of the expansion looks at, and a word's four bytes. Assumes nothing.
+use mathlib.Core.Path.{_≡_, _∙_}
 use mathlib.Core.List.{List, [], _∷_}
-use Prim.Native.Nat.{ℕ, zero, suc, _+_, _-_, _*_, _≤_, _<_}
+use Prim.Native.Nat.{ℕ, suc, _+_, _-_, _*_, _≤_, _<_}
 use native.Mathlib.Nat.{add-zero}
 use native.Mathlib.Omega.{arith}
 use lib.ListN.{length, take}
 use lib.Seq.{getD-take, length-take-le}
 use Rattle.words.specs.Lists.{table, block}
-use Rattle.words.proofs.Lists.{as-table, getD-block, length-block, length-xorEach}
-use Rattle.sm3_compress.specs.Standard.{at, recurrence, nextW, W, W′, ABCDEFGH, round, rounds, CF}
+use Rattle.words.proofs.Lists.{as-table, getD-block, length-block}
+use Rattle.sm3_compress.specs.Standard.{at, recurrence, nextW}
 
 -- word j of the expansion looks only at words before it
 pub next-take : (a : List ℕ) (j : ℕ) → 16 ≤ j → j ≤ length a → recurrence a j ≡ nextW (take j a)
@@ -40,14 +39,3 @@ block-four B i h =
       getD-block 4 i B 2 0 (omega arith),
       getD-block 4 i B 3 0 (omega arith),
     )
-
--- the rounds keep eight words
-pub length-rounds : (w w′ : List ℕ) (n : ℕ) (v : List ℕ) → length v ≡ 8 → length (rounds w w′ n v) ≡ 8
-unfolding rounds round ABCDEFGH
-length-rounds w w′ zero v e = e
-length-rounds w w′ (suc j) v e = refl
-
--- the compression function keeps eight words
-pub length-CF : (v B : List ℕ) → length v ≡ 8 → length (CF v B) ≡ 8
-unfolding CF
-length-CF v B e = length-xorEach _ v (length-rounds (W B) (W′ (W B)) 64 v e ∙ sym e) ∙ e

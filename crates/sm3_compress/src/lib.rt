@@ -4,6 +4,7 @@ ghost use mathlib.Core.Path.{_≡_};
 ghost use Prim.Native.Nat.{_≤_, _<_};
 ghost use lib.ListN.{take};
 ghost use Rattle.words.specs.Lists.{xorEach};
+ghost use Rattle.sm3_compress.specs.Rounds.{roundsFrom};
 ghost use Rattle.sm3_compress.specs.Standard.{T, FF, GG, P0, P1, word, words, recurrence, W, W′, round, rounds, CF};
 use words::rotate_left;
 use words::wrapping_add3;
@@ -85,7 +86,7 @@ fn word_at(block: &[u8; 64], i: usize) -> u32
     let b1 = bytes[k + 1];
     let b2 = bytes[k + 2];
     let b3 = bytes[k + 3];
-    words::u32_from_be_bytes([b0, b1, b2, b3])
+    big_endian::u32_from_be_bytes([b0, b1, b2, b3])
 }
 
 // W_0 to W_15: the block's own words.
@@ -134,16 +135,44 @@ fn primes(w: &[u32; 68]) -> [u32; 64]
     wp
 }
 
+// Rounds 0 to 15, four a turn: behind four rounds each word is at its place again, and none has to be moved.
+fn early_rounds(state: [u32; 8], w: &[u32; 68], wp: &[u32; 64]) -> [u32; 8]
+    ensures { λ r. ⌜ r ≡ roundsFrom (now (w .entry)) (now (wp .entry)) 0 16 state ⌝ }
+{
+    let mut v = state;
+    for i in 0..4 {
+        let j = i * 4;
+        let v1 = one_round(v, j as u32, w[j], wp[j]);
+        let v2 = one_round(v1, (j + 1) as u32, w[j + 1], wp[j + 1]);
+        let v3 = one_round(v2, (j + 2) as u32, w[j + 2], wp[j + 2]);
+        let v4 = one_round(v3, (j + 3) as u32, w[j + 3], wp[j + 3]);
+        v = v4;
+    }
+    v
+}
+
+// Rounds 16 to 63, apart from the others, since t, ff and gg change there.
+fn late_rounds(state: [u32; 8], w: &[u32; 68], wp: &[u32; 64]) -> [u32; 8]
+    ensures { λ r. ⌜ r ≡ roundsFrom (now (w .entry)) (now (wp .entry)) 16 48 state ⌝ }
+{
+    let mut v = state;
+    for i in 0..12 {
+        let j = i * 4 + 16;
+        let v1 = one_round(v, j as u32, w[j], wp[j]);
+        let v2 = one_round(v1, (j + 1) as u32, w[j + 1], wp[j + 1]);
+        let v3 = one_round(v2, (j + 2) as u32, w[j + 2], wp[j + 2]);
+        let v4 = one_round(v3, (j + 3) as u32, w[j + 3], wp[j + 3]);
+        v = v4;
+    }
+    v
+}
+
 // All 64 rounds.
 fn all_rounds(state: [u32; 8], w: &[u32; 68], wp: &[u32; 64]) -> [u32; 8]
     ensures { λ r. ⌜ r ≡ rounds (now (w .entry)) (now (wp .entry)) 64 state ⌝ }
 {
-    let mut v = state;
-    for j in 0..64 {
-        let u = one_round(v, j as u32, w[j], wp[j]);
-        v = u;
-    }
-    v
+    let v = early_rounds(state, w, wp);
+    late_rounds(v, w, wp)
 }
 
 // Each word of a with that of b.

@@ -1,3 +1,4 @@
 pub mod AnnexA
+pub mod Boxes
 pub mod Inverse
 pub mod Rounds

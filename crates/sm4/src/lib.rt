@@ -1,9 +1,11 @@
 // The block cipher SM4, GB/T 32907-2016: `Sm4Cipher` (new, encrypt_block, decrypt_block), the byte-table path of the Rust's
 // sm4/cipher.rs. Key, round keys and block are secret: no branch and no index depends on them. The number of a round and
 // the direction are public.
+ghost use mathlib.Core.List.{[], _∷_};
 ghost use mathlib.Core.Path.{_≡_};
 ghost use Prim.Native.Nat.{_<_};
 ghost use lib.ListN.{length, getD};
+ghost use Rattle.sm4_sbox.specs.Pass.{Kept, Counts};
 ghost use Rattle.sm4.specs.Standard.{
   tau,
   L,
@@ -20,8 +22,9 @@ ghost use Rattle.sm4.specs.Standard.{
   keysFrom,
   cipherOf,
 };
-ghost use Rattle.sm4.specs.Tables.{CKs, ordered};
-use sm4_sbox::sbox_ct;
+ghost use Rattle.sm4.specs.Tables.{Boxes, CKs, ordered};
+use sm4_sbox::COUNT;
+use sm4_sbox::S_BOX;
 use words::rotate_left;
 
 pub const BLOCK_SIZE: usize = 16;
@@ -80,16 +83,43 @@ pub struct Quad {
     pub x3: u32,
 }
 
-// The S-box at each byte of a.
-fn tau(a: u32) -> u32
+// e where k is x, else 0: a comparison taken as a number, and no branch.
+fn keep(e: u8, k: u8, x: u8) -> u8
+    ensures { λ r. ⌜ Kept e k x r ⌝ }
+{
+    e * ((k == x) as u8)
+}
+
+// The entries of t at a, b, c, d: `sbox_ct` four times in one pass over the whole table, so that each entry is read once for
+// the four. The places are read off n.
+fn select4(t: &[u8; 256], n: &[u8; 256], a: u8, b: u8, c: u8, d: u8) -> [u8; 4]
+    requires { ⌜ Counts (now n) ⌝ }
+    ensures { λ r. ⌜ r ≡ getD (now (t .entry)) a 0 ∷ getD (now (t .entry)) b 0 ∷ getD (now (t .entry)) c 0
+        ∷ getD (now (t .entry)) d 0 ∷ [] ⌝ }
+{
+    let mut ra: u8 = 0;
+    let mut rb: u8 = 0;
+    let mut rc: u8 = 0;
+    let mut rd: u8 = 0;
+    for i in 0..256 {
+        let e = t[i];
+        let k = n[i];
+        ra = ra + keep(e, k, a);
+        rb = rb + keep(e, k, b);
+        rc = rc + keep(e, k, c);
+        rd = rd + keep(e, k, d);
+    }
+    [ra, rb, rc, rd]
+}
+
+// The S-box at each byte of a. The two tables are lent, from the start of a key or a block on: named here they would be copied
+// at every round.
+fn tau(a: u32, t: &[u8; 256], n: &[u8; 256]) -> u32
+    requires { ⌜ Boxes (now t) (now n) ⌝ }
     ensures { λ r. ⌜ r ≡ tau a ⌝ }
 {
-    let b = words::u32_to_be_bytes(a);
-    let s0 = sbox_ct(b[0]);
-    let s1 = sbox_ct(b[1]);
-    let s2 = sbox_ct(b[2]);
-    let s3 = sbox_ct(b[3]);
-    words::u32_from_be_bytes([s0, s1, s2, s3])
+    let b = big_endian::u32_to_be_bytes(a);
+    big_endian::u32_from_be_bytes(select4(t, n, b[0], b[1], b[2], b[3]))
 }
 
 fn l_round(b: u32) -> u32
@@ -104,26 +134,28 @@ fn l_prime(b: u32) -> u32
     b ^ rotate_left(b, 13) ^ rotate_left(b, 23)
 }
 
-fn t_round(x: u32) -> u32
+fn t_round(x: u32, t: &[u8; 256], n: &[u8; 256]) -> u32
+    requires { ⌜ Boxes (now t) (now n) ⌝ }
     ensures { λ r. ⌜ r ≡ T x ⌝ }
 {
-    l_round(tau(x))
+    l_round(tau(x, t, n))
 }
 
-fn t_prime(x: u32) -> u32
+fn t_prime(x: u32, t: &[u8; 256], n: &[u8; 256]) -> u32
+    requires { ⌜ Boxes (now t) (now n) ⌝ }
     ensures { λ r. ⌜ r ≡ T′ x ⌝ }
 {
-    l_prime(tau(x))
+    l_prime(tau(x, t, n))
 }
 
 // The four words of a block or a key.
 fn load(b: [u8; 16]) -> Quad
     ensures { λ r. ⌜ r ≡ wordsOf b ⌝ }
 {
-    let x0 = words::u32_from_be_bytes([b[0], b[1], b[2], b[3]]);
-    let x1 = words::u32_from_be_bytes([b[4], b[5], b[6], b[7]]);
-    let x2 = words::u32_from_be_bytes([b[8], b[9], b[10], b[11]]);
-    let x3 = words::u32_from_be_bytes([b[12], b[13], b[14], b[15]]);
+    let x0 = big_endian::u32_from_be_bytes([b[0], b[1], b[2], b[3]]);
+    let x1 = big_endian::u32_from_be_bytes([b[4], b[5], b[6], b[7]]);
+    let x2 = big_endian::u32_from_be_bytes([b[8], b[9], b[10], b[11]]);
+    let x3 = big_endian::u32_from_be_bytes([b[12], b[13], b[14], b[15]]);
     Quad { x0, x1, x2, x3 }
 }
 
@@ -131,10 +163,10 @@ fn load(b: [u8; 16]) -> Quad
 fn store(q: Quad) -> [u8; 16]
     ensures { λ r. ⌜ r ≡ bytesOf q ⌝ }
 {
-    let a = words::u32_to_be_bytes(q.x0);
-    let b = words::u32_to_be_bytes(q.x1);
-    let c = words::u32_to_be_bytes(q.x2);
-    let d = words::u32_to_be_bytes(q.x3);
+    let a = big_endian::u32_to_be_bytes(q.x0);
+    let b = big_endian::u32_to_be_bytes(q.x1);
+    let c = big_endian::u32_to_be_bytes(q.x2);
+    let d = big_endian::u32_to_be_bytes(q.x3);
     [
         a[0],
         a[1],
@@ -156,26 +188,28 @@ fn store(q: Quad) -> [u8; 16]
 }
 
 // One round on a block.
-fn data_round(x: Quad, rk: u32) -> Quad
+fn data_round(x: Quad, rk: u32, t: &[u8; 256], n: &[u8; 256]) -> Quad
+    requires { ⌜ Boxes (now t) (now n) ⌝ }
     ensures { λ r. ⌜ r ≡ round x rk ⌝ }
 {
     Quad {
         x0: x.x1,
         x1: x.x2,
         x2: x.x3,
-        x3: x.x0 ^ t_round(x.x1 ^ x.x2 ^ x.x3 ^ rk),
+        x3: x.x0 ^ t_round(x.x1 ^ x.x2 ^ x.x3 ^ rk, t, n),
     }
 }
 
 // One round on a key.
-fn key_round(k: Quad, ck: u32) -> Quad
+fn key_round(k: Quad, ck: u32, t: &[u8; 256], n: &[u8; 256]) -> Quad
+    requires { ⌜ Boxes (now t) (now n) ⌝ }
     ensures { λ r. ⌜ r ≡ keyRound k ck ⌝ }
 {
     Quad {
         x0: k.x1,
         x1: k.x2,
         x2: k.x3,
-        x3: k.x0 ^ t_prime(k.x1 ^ k.x2 ^ k.x3 ^ ck),
+        x3: k.x0 ^ t_prime(k.x1 ^ k.x2 ^ k.x3 ^ ck, t, n),
     }
 }
 
@@ -194,14 +228,14 @@ fn key_start(key: [u8; 16]) -> Quad
 }
 
 // The 32 round keys, from K_0 to K_3. The table is lent: named in the loop it would be copied at every turn.
-fn expand(start: Quad, ck: &[u32; 32]) -> [u32; 32]
-    requires { ⌜ CKs (now ck) ⌝ }
+fn expand(start: Quad, ck: &[u32; 32], t: &[u8; 256], n: &[u8; 256]) -> [u32; 32]
+    requires { ⌜ CKs (now ck) × Boxes (now t) (now n) ⌝ }
     ensures { λ r. ⌜ r ≡ keysFrom start 0 32 ⌝ }
 {
     let mut k = start;
     let mut rk = [0u32; 32];
     for i in 0..32 {
-        k = key_round(k, ck[i]);
+        k = key_round(k, ck[i], t, n);
         rk[i] = k.x3;
     }
     rk
@@ -216,12 +250,13 @@ fn key_at(rk: &[u32; 32], reverse: bool, i: usize) -> u32
 }
 
 // The 32 rounds on a block. `reverse` takes the round keys from the last to the first: that is decryption.
-fn crypt(block: [u8; 16], rk: [u32; 32], reverse: bool) -> [u8; 16]
+fn crypt(block: [u8; 16], rk: [u32; 32], reverse: bool, t: &[u8; 256], n: &[u8; 256]) -> [u8; 16]
+    requires { ⌜ Boxes (now t) (now n) ⌝ }
     ensures { λ r. ⌜ r ≡ encrypt (ordered reverse rk) block ⌝ }
 {
     let mut x = load(block);
     for i in 0..32 {
-        x = data_round(x, key_at(&rk, reverse, i));
+        x = data_round(x, key_at(&rk, reverse, i), t, n);
     }
     store(Quad {
         x0: x.x3,
@@ -236,7 +271,7 @@ impl Sm4Cipher {
     pub fn new(key: [u8; 16]) -> Sm4Cipher
         ensures { λ r. ⌜ r ≡ cipherOf key ⌝ }
     {
-        let round_keys = expand(key_start(key), &CK);
+        let round_keys = expand(key_start(key), &CK, &S_BOX, &COUNT);
         Sm4Cipher { round_keys }
     }
 
@@ -244,13 +279,13 @@ impl Sm4Cipher {
         ensures { λ r. ⌜ r ≡ encrypt (self .«round_keys») block ⌝ }
     {
         let rk = self.round_keys;
-        crypt(block, rk, false)
+        crypt(block, rk, false, &S_BOX, &COUNT)
     }
 
     pub fn decrypt_block(self, block: [u8; 16]) -> [u8; 16]
         ensures { λ r. ⌜ r ≡ decrypt (self .«round_keys») block ⌝ }
     {
         let rk = self.round_keys;
-        crypt(block, rk, true)
+        crypt(block, rk, true, &S_BOX, &COUNT)
     }
 }

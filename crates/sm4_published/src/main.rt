@@ -3,33 +3,10 @@
 ghost use Prim.Native.Nat.{_<_};
 ghost use mathlib.Core.Path.{_≡_};
 ghost use lib.ListN.{length};
-use libc::STDOUT_FILENO;
+use cbc_lines::both_cbc;
+use programs::line;
+use programs::text;
 use sm4::Sm4Cipher;
-
-fn text(s: &[u8]) {
-    io::write_all(STDOUT_FILENO, s);
-}
-
-fn wide(x: u8) -> u64
-    ensures { λ r. ⌜ r < 256 ⌝ }
-{
-    x as u64
-}
-
-// The bytes in hexadecimal.
-fn hex(bytes: &[u8]) {
-    for i in 0..bytes.len() {
-        io::print_hex(STDOUT_FILENO, wide(bytes[i]), 2);
-    }
-}
-
-// A label's end, and the bytes in hexadecimal.
-fn line(name: &[u8], bytes: &[u8]) {
-    text(name);
-    text(b" ");
-    hex(bytes);
-    text(b"\n");
-}
 
 // The value of a hexadecimal digit in lower case.
 fn digit(c: u8) -> u8
@@ -74,73 +51,42 @@ fn block(written: &[u8]) -> [u8; 16] {
     block_at(&b, 0)
 }
 
-// One block either way, in hexadecimal.
-fn ecb_block(cipher: Sm4Cipher, b: [u8; 16], back: bool) {
+fn ecb_block(cipher: Sm4Cipher, b: [u8; 16], back: bool) -> [u8; 16] {
     if back {
-        let opened = cipher.decrypt_block(b);
-        hex(&opened);
+        cipher.decrypt_block(b)
     } else {
-        let closed = cipher.encrypt_block(b);
-        hex(&closed);
+        cipher.encrypt_block(b)
     }
 }
 
-// The rest of a line: each whole block of data by itself, either way.
-fn ecb(cipher: Sm4Cipher, data: &[u8], back: bool) {
-    text(b" ");
-    for k in 0..data.len() / 16 {
-        ecb_block(cipher, block_at(data, k * 16), back);
+// Each block by itself, either way.
+fn ecb(cipher: Sm4Cipher, data: [u8; 128], back: bool) -> [u8; 128]
+    ensures { λ r. ⌜ length r ≡ 128 ⌝ }
+{
+    let mut out = [0u8; 128];
+    for k in 0..8 {
+        let b = ecb_block(cipher, block_at(&data, k * 16), back);
+        words::copy_at(&mut out, k * 16, &b);
     }
-    text(b"\n");
+    out
 }
 
 // A published vector: the plain blocks enciphered, and the cipher blocks deciphered.
 fn published_ecb(name: &[u8], key: &[u8], plain: &[u8], closed: &[u8]) {
     let cipher = Sm4Cipher::new(block(key));
-    let p = bytes(plain);
-    let c = bytes(closed);
+    let c = ecb(cipher, bytes(plain), false);
+    let p = ecb(cipher, bytes(closed), true);
     let n = plain.len() / 2 % 129;
     text(name);
-    text(b"-encrypt");
-    ecb(cipher, &p[..n], false);
+    line(b"-encrypt", &c[..n]);
     text(name);
-    text(b"-decrypt");
-    ecb(cipher, &c[..n], true);
-}
-
-// What an output holds before the call.
-fn found() -> [u8; 128]
-    ensures { λ r. ⌜ length r ≡ 128 ⌝ }
-{
-    [0xee; 128]
-}
-
-// A line: the whole blocks of a record deciphered, one by one.
-fn opened(name: &[u8], cipher: Sm4Cipher, record: &[u8], out: &mut [u8]) {
-    for k in 0..out.len() / 16 {
-        cbc::decipher_block_cbc(cipher, record, k, out);
-    }
-    text(name);
-    line(b"-decrypt", out);
-}
-
-// Two lines: a body of at most 128 bytes enciphered in place, and deciphered behind its IV.
-fn both_cbc(name: &[u8], cipher: Sm4Cipher, iv: [u8; 16], body: &mut [u8]) {
-    cbc::encipher_cbc(cipher, iv, body);
-    text(name);
-    line(b"-encrypt", body);
-    let n = body.len() % 129;
-    let mut record = [0u8; 144];
-    words::copy_at(&mut record, 0, &iv);
-    words::copy_at(&mut record, 16, body);
-    let mut out = found();
-    opened(name, cipher, &record[..16 + n], &mut out[..n]);
+    line(b"-decrypt", &p[..n]);
 }
 
 fn published_cbc(name: &[u8], key: &[u8], iv: &[u8], plain: &[u8]) {
-    let mut body = bytes(plain);
+    let body = bytes(plain);
     let n = plain.len() / 2 % 129;
-    both_cbc(name, Sm4Cipher::new(block(key)), block(iv), &mut body[..n]);
+    both_cbc(name, Sm4Cipher::new(block(key)), block(iv), &body[..n]);
 }
 
 fn ecbs() {

@@ -1,3 +1,4 @@
+pub mod Counts
 pub mod Inverse
 pub mod Once
 pub mod Pass

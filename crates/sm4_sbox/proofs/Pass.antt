@@ -1,12 +1,18 @@
 -- A pass over a table that adds each entry times 1 at place x and 0 elsewhere: the sum after i entries is the entry at x
 -- of the first i. Assumes nothing.
+use mathlib.Core.Bool.{Bool, true, false}
 use mathlib.Core.List.{List, [], _∷_}
-use mathlib.Core.Path.{_≡_}
+use mathlib.Core.Path.{_≡_, refl, ap, ap₂, _∙_}
 use Prim.Native.Nat.{ℕ, zero, suc, _+_, _*_, _<_}
 use native.Mathlib.Nat.{add-zero, mul-one, mul-zero, zero-add, zero-mul}
-use lib.Dec.{eqb, eqb·zero-suc, eqb·suc-zero, eqb·suc-suc}
+use native.Mathlib.Numerals.{add-one}
+use native.Mathlib.Omega.{arith}
+use lib.Dec.{eqb, eqb·zero-suc, eqb·suc-zero, eqb·suc-suc, lit<}
 use lib.ListN.{getD, take}
+use lib.Seq.{getD-take}
+use mir.Val.{boolByte}
 use Rattle.words.specs.Choice.{bit}
+use Rattle.sm4_sbox.specs.Pass.{Kept, Counts}
 
 -- one entry more
 pub pass-more : (t : List ℕ) (x i : ℕ) → getD (take i t) x 0 + getD t i 0 * bit (eqb i x) ≡ getD (take (suc i) t) x 0
@@ -25,3 +31,33 @@ pass-below b (y ∷ t) zero zero p h k = k
 pass-below b (y ∷ t) (suc x) zero p h k = p
 pass-below b (y ∷ t) zero (suc i) p h k = h
 pass-below b (y ∷ t) (suc x) (suc i) p h k = pass-below b t x i p h k
+
+-- what is kept of a byte is a byte
+pub kept-byte : (e : ℕ) (b : Bool) → e < 256 → e * boolByte b < 256
+kept-byte e true h = rw (mul-one e) h
+kept-byte e false h = rw (mul-zero e) (lit< tt)
+
+-- r is the entry at x of the first i of t, and a byte
+pub record Passed (t : List ℕ) (x i r : ℕ) : Type 0 where
+  pub is : r ≡ getD (take i t) x 0
+  pub byte : r < 256
+
+-- before the first turn
+pub pass-none : (t : List ℕ) (x : ℕ) → Passed t x 0 0
+pass-none t x = record { is = refl; byte = lit< tt }
+
+-- a turn of the pass: what `keep` gave of entry i is added
+pub pass-turn : (t n : List ℕ) (x i r q : ℕ) → Counts n → i < 256 → Passed t x i r → Kept (getD t i 0) (getD n i 0) x q
+    → Passed t x (i + 1) (r + q)
+pass-turn t n x i r q places h p k =
+    let sum : r + q ≡ getD (take (i + 1) t) x 0 =
+    ap₂ (λ (a b : ℕ). a + b) (p .is)
+    (k .is ∙ ap (λ (m : ℕ). getD t i 0 * bit (eqb m x)) (places .place i h))
+    ∙ rw (add-one i) (pass-more t x i) in
+    let below : getD (take (i + 1) t) x 0 < 256 =
+    rw (add-one i) (pass-below 256 t x i (lit< tt) (rw (p .is) at (p .byte)) (k .byte)) in
+    record { is = sum; byte = omega (arith, sum, below) }
+
+-- behind the last turn
+pub pass-all : (t : List ℕ) (x i r : ℕ) → x < i → Passed t x i r → r ≡ getD t x 0
+pass-all t x i r h p = p .is ∙ getD-take i t x 0 h

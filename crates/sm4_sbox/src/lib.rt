@@ -265,7 +265,7 @@ pub const S_BOX: [u8; 256] = [
 ];
 
 // Each byte value at its own place.
-const COUNT: [u8; 256] = [
+pub const COUNT: [u8; 256] = [
     0,
     1,
     2,

@@ -1,8 +1,13 @@
 // Opens records step by step and writes every field of the state, and a digest of the whole output, after each step: records
 // that are accepted and refused, states that were tampered with, ended openings and refused starts. The file stdout has the
 // values of a model that was written from the rules, which the script `expected` runs.
-ghost use Prim.Native.Nat.{_≤_, _<_};
-use libc::STDOUT_FILENO;
+ghost use Prim.Native.Nat.{_≤_};
+use programs::hex;
+use programs::label;
+use programs::line;
+use programs::number;
+use programs::spread;
+use programs::text;
 use record::RecordKeysCbc;
 use sm4::Sm4Cipher;
 use steps::OpeningCbc;
@@ -11,38 +16,6 @@ use steps::Stepped;
 const NUMBER: u64 = 0x0102_0304_0506_0708;
 
 const TYPE: u8 = 23;
-
-fn text(s: &[u8]) {
-    io::write_all(STDOUT_FILENO, s);
-}
-
-fn wide(x: u8) -> u64
-    ensures { λ r. ⌜ r < 256 ⌝ }
-{
-    x as u64
-}
-
-// A space, and a number in decimal, for each.
-fn numbers(row: &[u64]) {
-    for i in 0..row.len() {
-        text(b" ");
-        io::print_decimal(STDOUT_FILENO, row[i]);
-    }
-}
-
-// A space, and the bytes in hexadecimal.
-fn hex(bytes: &[u8]) {
-    text(b" ");
-    for i in 0..bytes.len() {
-        io::print_hex(STDOUT_FILENO, wide(bytes[i]), 2);
-    }
-}
-
-fn label(name: &[u8], k: usize) {
-    text(name);
-    text(b"-");
-    io::print_decimal(STDOUT_FILENO, k as u64);
-}
 
 // Both rows of words, as bytes, and both keys.
 fn secrets(opening: OpeningCbc) {
@@ -58,50 +31,33 @@ fn secrets(opening: OpeningCbc) {
 
 // Number, type and version.
 fn header_parts(opening: OpeningCbc) {
-    let row = [opening.seq, opening.content_type as u64];
     let version = opening.version;
-    numbers(&row);
+    number(b" ", opening.seq);
+    number(b" ", opening.content_type as u64);
     hex(&version);
 }
 
 // The fields behind them, in the state's order.
 fn progress(opening: OpeningCbc) {
-    let row = [
-        opening.n as u64,
-        opening.total as u64,
-        opening.done as u64,
-        opening.held as u64,
-        opening.pad_ok as u64,
-        opening.ended as u64,
-        opening.answer as u64,
-    ];
-    numbers(&row);
+    number(b" ", opening.n as u64);
+    number(b" ", opening.total as u64);
+    number(b" ", opening.done as u64);
+    number(b" ", opening.held as u64);
+    number(b" ", opening.pad_ok as u64);
+    number(b" ", opening.ended as u64);
+    number(b" ", opening.answer as u64);
 }
 
 // The rest of a line: answer, length, count, every field of the state, and the digest of the output.
 fn reported(s: Stepped, out: &[u8]) {
-    let report = [s.answer as u64, s.length as u64, s.count as u64];
-    numbers(&report);
+    let digest = sm3::hash(out).bytes;
+    number(b" ", s.answer as u64);
+    number(b" ", s.length as u64);
+    number(b" ", s.count as u64);
     secrets(s.opening);
     header_parts(s.opening);
     progress(s.opening);
-    digest(out);
-}
-
-fn digest(out: &[u8]) {
-    let d = sm3::hash(out);
-    let bytes = d.bytes;
-    hex(&bytes);
-    text(b"\n");
-}
-
-// Byte i of out is made step i + first, modulo 256.
-fn spread(step: u8, first: u8, out: &mut [u8]) {
-    let mut x = first;
-    for i in 0..out.len() {
-        out[i] = x;
-        x = std::num::wrapping_add_u8(x, step);
-    }
+    line(b"", &digest);
 }
 
 fn keys() -> RecordKeysCbc {
@@ -172,7 +128,8 @@ fn sealed(len: usize, padlen: u8, at: usize, wrong: usize, record: &mut [u8])
 // A line: one step.
 fn once(name: &[u8], k: usize, opening: OpeningCbc, record: &[u8], out: &mut [u8]) -> OpeningCbc {
     let s = steps::step_cbc(opening, record, out);
-    label(name, k);
+    text(name);
+    number(b"-", k as u64);
     reported(s, out);
     s.opening
 }
@@ -197,7 +154,8 @@ fn run(
 fn opened(name: &[u8], last: usize, record: &[u8], out: &mut [u8]) -> OpeningCbc {
     spread(11, 5, out);
     let s = started(record.len(), out.len());
-    label(name, 0);
+    text(name);
+    text(b"-0");
     reported(s, out);
     run(name, s.opening, 0, last, record, out)
 }
@@ -310,8 +268,7 @@ fn changed(name: &[u8], len: usize, padlen: u8, at: usize, held: usize, pad_ok: 
 // A start by its sizes, and a step on what it hands back.
 fn start(record_len: usize, room: usize) {
     let s = started(record_len, room);
-    label(b"start", record_len);
-    label(b"", room);
+    label(b"start", record_len, room);
     reported(s, b"");
     sized(b"start-room", room, s.opening, 144, 160);
 }

@@ -1,18 +1,19 @@
 -- What an opening says of itself that is not broken, and the work that it comes to next. Assumes nothing.
-use mathlib.Core.Bool.{Bool, true, false, cond, not, _&&_, _||_, false≢true}
-use mathlib.Core.Path.{_≡_, refl, sym, _∙_, subst}
+use mathlib.Core.Bool.{Bool, true, false, cond, not, _&&_}
+use mathlib.Core.Path.{_≡_, refl}
 use Prim.Native.Nat.{ℕ, zero, suc, _+_, _-_, _≤_, _<_}
 use native.Mathlib.Nat.{suc-ne-zero}
 use native.Mathlib.Omega.{arith}
-use borrow.Author.Tests.{ltb-false, leb-false, eqb-true, not-false, le-ltb, lt-ltb, lt-leb, eq-eqb, ne-eqb}
+use borrow.Author.Tests.{ltb-false, leb-false, eqb-true, not-false, le-ltb, lt-ltb, eq-eqb, ne-eqb}
 use lib.Dec.{eqb, leb, ltb}
 use Rattle.answers.specs.Answers.{Done}
+use Rattle.words.proofs.Tests.{neither}
 use Rattle.sizes.specs.Sizes.{sizeAnswer, allowed, blocks, macSteps, totalSteps}
 use Rattle.sizes.proofs.Passed.{Allowed, allowed-facts, facts-allowed, passed}
 use Rattle.steps.specs.declared.OpeningCbc.{OpeningCbc}
 use Rattle.steps.specs.State.{startAnswer}
 use Rattle.steps.specs.Step.{broken}
-use Rattle.steps.specs.Work.{Work, decipher, readPadding, inner, outerPad, outerHash, answering, workAt}
+use Rattle.steps.specs.Work.{decipher, readPadding, inner, outerPad, outerHash, answering, workAt}
 
 -- an accepted start: the size is right, and the output has room for the body
 pub start-passed : (r room : ℕ) → startAnswer r room ≡ Done → (r ≡ r - 16 + 16) × Allowed (r - 16) × (r - 16 ≤ room)
@@ -33,11 +34,6 @@ pub record Sound (s : OpeningCbc) (r room : ℕ) : Type 0 where
   pub text : s .held ≤ s .n - 33
   pub whole : r ≡ s .n + 16
   pub fits : s .n ≤ room
-
--- neither of two tests
-neither : (a b : Bool) → (a || b) ≡ false → (a ≡ false) × (b ≡ false)
-neither true b e = absurd (false≢true (sym e))
-neither false b e = (refl, e)
 
 pub sound : (s : OpeningCbc) (r room : ℕ) → broken s r room ≡ false → Sound s r room
 unfolding broken

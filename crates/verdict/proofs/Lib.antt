@@ -1,4 +1,3 @@
 pub mod Cleared
 pub mod Extracted
 pub mod OneOutcome
-mod Over

@@ -4,5 +4,7 @@ pub mod Choice
 pub mod Copy
 pub mod Lists
 pub mod OneOutcome
+pub mod Over
+pub mod Tests
 pub mod Word
 pub mod Xor

@@ -107,12 +107,6 @@ table-getD l (suc n) h = rw (take-suc l n 0, table-getD l n (omega arith))
 pub as-table : (l : List ℕ) (n : ℕ) → length l ≡ n → l ≡ table (λ i. getD l i 0) n
 as-table l n e = sym (table-getD l n (omega arith) ∙ take-whole l n e)
 
--- the front of a table is a table
-pub take-table : (f : ℕ → ℕ) (k n : ℕ) → k ≤ n → take k (table f n) ≡ table f k
-take-table f k n h =
-    sym (table-getD (table f n) k (rw length-table h))
-    ∙ table-ext (λ i. getD (table f n) i 0) f k (λ i b. getD-table f n i 0 (omega arith))
-
 -- one turn of a loop that fills an array: element j is f j
 pub table-more : (f : ℕ → ℕ) (a : List ℕ) (j v : ℕ) → j < length a → v ≡ f j → take j a ≡ table f j
     → take (j + 1) (set a j v) ≡ table f (j + 1)
@@ -125,13 +119,6 @@ pub grow-more : (f : List ℕ → ℕ) (w a : List ℕ) (n j v : ℕ) → j < le
 unfolding grow
 grow-more f w a n j v h e p =
     rw (add-one j, add-one n, take-suc-set) (ap₂ (λ (l : List ℕ) (x : ℕ). l ++ (x ∷ [])) p (e ∙ ap f p))
-
--- n elements more
-pub length-grow : (f : List ℕ → ℕ) (n : ℕ) (w : List ℕ) → length (grow f n w) ≡ length w + n
-unfolding grow
-length-grow f zero w = omega arith
-length-grow f (suc n) w =
-    length-append (grow f n w) (f (grow f n w) ∷ []) ∙ omega (arith, length-grow f n w)
 
 -- ---- blocks
 
@@ -235,18 +222,6 @@ module _ (w : ℕ) (f : ℕ → List ℕ) where
       ∙ rw (take-at front rest (m * w) l, e, drop-append-add front rest w, drop-drop w (m * w) o, suc-mul m w)
       (sym (append-assoc front (f m) (drop (m * w + w) o)))
 
--- ---- a list made element by element
-
--- one turn of a loop that makes x
-pub made-more : (x a : List ℕ) (i v : ℕ) → i < length a → i < length x → v ≡ getD x i 0 → take i a ≡ take i x
-    → take (i + 1) (set a i v) ≡ take (i + 1) x
-made-more x a i v h k e p =
-    rw (add-one i, take-suc-set a i v h, take-suc x i 0 k) (ap₂ (λ (l : List ℕ) (y : ℕ). l ++ (y ∷ [])) p e)
-
--- its end
-pub made-all : (x a : List ℕ) (n : ℕ) → length a ≡ n → length x ≡ n → take n a ≡ take n x → a ≡ x
-made-all x a n h k p = sym (take-whole a n h) ∙ p ∙ take-whole x n k
-
 -- ---- exclusive or of two lists of one length
 
 -- the length stays
@@ -272,3 +247,10 @@ getD-xorEach [] (y ∷ b) i e = absurd (suc-ne-zero (length b) (sym e))
 getD-xorEach (x ∷ a) [] i e = absurd (suc-ne-zero (length a) e)
 getD-xorEach (x ∷ a) (y ∷ b) zero e = refl
 getD-xorEach (x ∷ a) (y ∷ b) (suc i) e = getD-xorEach a b i (suc-inj e)
+
+-- every element with the same number
+pub getD-xorEach-run : (n : ℕ) (a : List ℕ) (i x : ℕ) → length a ≡ n → i < n
+    → getD a i 0 ⊕ x ≡ getD (xorEach a (replicate n x)) i 0
+getD-xorEach-run n a i x e h =
+    ap (λ (y : ℕ). getD a i 0 ⊕ y) (sym (getD-replicate n i x 0 h))
+    ∙ sym (getD-xorEach a (replicate n x) i (e ∙ sym (length-replicate n x)))

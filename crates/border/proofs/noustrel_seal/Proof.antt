@@ -5,8 +5,9 @@ use mathlib.Core.Path.{_≡_, sym, _∙_}
 use borrow.Author.Needs.{needs}
 use borrow.Author.Tests.{not-true, not-false}
 use lib.ListN.{length}
+use Rattle.words.proofs.Tests.{both}
 use Rattle.border.specs.Border.{has, keySizes}
-use Rattle.border.proofs.Sizes.{both, is-long, keys-long}
+use Rattle.border.proofs.Sizes.{is-long, keys-long}
 use Rattle.border.proofs.noustrel_seal.Statement.{statement}
 use Rattle.border.proofs.noustrel_seal.Tie as tie
 

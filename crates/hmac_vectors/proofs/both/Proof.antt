@@ -6,19 +6,17 @@ use lib.Seq.{length-take-le}
 use Rattle.hmac_vectors.proofs.both.Statement.{statement}
 use Rattle.hmac_vectors.proofs.both.Tie as tie
 
-slice-aggregate-update : tie.Need-slice-aggregate-update
-slice-aggregate-update c = sym (length-take-le _ _ (omega arith))
-
 pub both-spec : {M : Type 1} → statement M
 both-spec =
     tie.close
     (tie.spec
     (λ c. search needs)
     (λ c κs. search needs)
+    (λ c. search needs)
     (λ c κs. search needs)
     (λ c κs. search needs)
     (λ c κs. search needs)
-    slice-aggregate-update
+    (λ c. sym (length-take-le _ _ (omega arith)))
     (λ c κs. search needs)
     (λ c. search needs)
     (λ c. search needs)
@@ -26,6 +24,7 @@ both-spec =
     (λ c κs. search needs)
     (λ c. search needs)
     (λ c κs. search needs)
+    (λ c. search needs)
     (λ c κs. search needs)
     (λ c κs. search needs)
     (λ c. search needs))

@@ -1,5 +1,5 @@
 -- `hmac_vectors::messages` is safe and ends. The loop's invariant: k is at most the length, and the pattern is longer
--- than any byte can ask for; the measure is how many lengths are left. Assumes nothing.
+-- than any length asks for; the measure is how many lengths are left. Assumes nothing.
 use mathlib.Core.Path.{_≡_, sym}
 use Prim.Native.Nat.{_-_, _≤_}
 use native.Mathlib.Omega.{arith}
@@ -15,21 +15,19 @@ Inv-loop key ns m k₀ _ k = (k ≤ length ns) × (length m ≡ 256)
 abbrev μ-loop : tie.MeasureT-loop
 μ-loop key ns m k₀ _ k = length ns - k
 
-slice-aggregate-both : tie.Need-slice-aggregate-both Inv-loop μ-loop
-slice-aggregate-both c = sym (length-take-le _ _ (omega arith))
-
 pub messages-spec : {M : Type 1} → statement M
 messages-spec =
     tie.close
     (tie.spec
     Inv-loop
     μ-loop
-    (λ c κs. search needs)
-    (λ c. search needs)
     (λ c. search needs)
     (λ c κs. search needs)
     (λ c. search needs)
-    slice-aggregate-both
+    (λ c. search needs)
+    (λ c. search needs)
+    (λ c. search needs)
+    (λ c. sym (length-take-le _ _ (omega arith)))
     (λ c κs. search needs)
     (λ c. search needs)
     (λ c. search needs)

@@ -7,9 +7,10 @@ use borrow.Author.Needs.{needs}
 use borrow.Author.Tests.{ltb-true, ltb-false, le-leb, lt-leb, not-true, not-false}
 use lib.Dec.{leb}
 use lib.ListN.{length}
+use Rattle.words.proofs.Tests.{left-fails, right-fails}
 use Rattle.key_schedule.specs.Sizes.{MAX-KEY-BLOCK, inputsRight, keyBlockSizes}
 use Rattle.key_schedule.specs.Standard.{keyBlock}
-use Rattle.key_schedule.proofs.Sizes.{left-fails, right-fails, inputs-lengths}
+use Rattle.key_schedule.proofs.Sizes.{inputs-lengths}
 use Rattle.key_schedule.proofs.derive_key_block.Statement.{statement}
 use Rattle.key_schedule.proofs.derive_key_block.Tie as tie
 

@@ -8,9 +8,10 @@ use borrow.Author.Needs.{needs}
 use borrow.Author.Tests.{eqb-true, not-true, not-false}
 use lib.Dec.{eqb}
 use lib.ListN.{length}
+use Rattle.words.proofs.Tests.{left-fails, right-fails}
 use Rattle.key_schedule.specs.Sizes.{MASTER-SECRET-LEN, inputsRight, masterSecretSizes}
 use Rattle.key_schedule.specs.Standard.{masterSecretLabel, PRF, masterSecret}
-use Rattle.key_schedule.proofs.Sizes.{left-fails, right-fails, inputs-lengths}
+use Rattle.key_schedule.proofs.Sizes.{inputs-lengths}
 use Rattle.key_schedule.proofs.derive_master_secret.Statement.{statement}
 use Rattle.key_schedule.proofs.derive_master_secret.Tie as tie
 

@@ -11,12 +11,12 @@ use borrow.Author.Tests.{eq-eqb, ne-eqb, eqb-true, not-true, not-false}
 use lib.Dec.{eqb}
 use lib.ListN.{length}
 use Rattle.answers.specs.Answers.{Done}
+use Rattle.words.proofs.Tests.{left-fails, right-fails}
 use Rattle.key_schedule.specs.declared.TlcpRole.{TlcpRole}
 use Rattle.key_schedule.specs.declared.TlcpRole.the-variants.{Client, Server}
 use Rattle.key_schedule.specs.Promise.{Finished}
 use Rattle.key_schedule.specs.Sizes.{MASTER-SECRET-LEN, RANDOM-LEN, FINISHED-VERIFY-DATA-LEN, finishedSizes, Small}
 use Rattle.key_schedule.specs.Standard.{labelOf, PRF, finished}
-use Rattle.key_schedule.proofs.Sizes.{left-fails, right-fails}
 use Rattle.key_schedule.proofs.finished_verify_data.Statement.{statement}
 use Rattle.key_schedule.proofs.finished_verify_data.Tie as tie
 

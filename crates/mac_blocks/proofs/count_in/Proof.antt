@@ -1,16 +1,14 @@
 -- `mac_blocks::count_in` meets its contract: the number of bits, or 0, in 8 bytes. Assumes nothing.
 use mathlib.Core.Bool.{Bool, true, false, cond}
-use mathlib.Core.List.{List}
 use mathlib.Core.Path.{_≡_, refl, ap, _∙_}
 use Prim.Native.Nat.{ℕ, _+_, _*_, _/_, _%_, _^_}
-use native.Mathlib.Omega.{arith}
 use borrow.Author.Needs.{needs}
 use lib.Dec.{eqb}
 use lib.ListN.{replicate}
 use Rattle.words.specs.Bytes.{be}
+use Rattle.words.proofs.Choice.{chosen-by}
 use Rattle.sm3.specs.Standard.{count}
 use Rattle.sm3.proofs.Ending.{shifted-count}
-use Rattle.mac_blocks.proofs.Choice.{chosen-by}
 use Rattle.mac_blocks.proofs.count_in.Statement.{statement}
 use Rattle.mac_blocks.proofs.count_in.Tie as tie
 

@@ -7,7 +7,7 @@ use borrow.Author.Needs.{needs}
 use borrow.Author.Tests.{ltb-true, ltb-false}
 use lib.Dec.{ltb}
 use Rattle.words.proofs.Lists.{cond-is}
-use Rattle.mac_blocks.proofs.Choice.{chosen-by}
+use Rattle.words.proofs.Choice.{chosen-by}
 use Rattle.mac_blocks.proofs.held_of.Statement.{statement}
 use Rattle.mac_blocks.proofs.held_of.Tie as tie
 

@@ -8,10 +8,10 @@ use borrow.Author.Needs.{needs}
 use lib.Dec.{eqb}
 use lib.ListN.{length, take}
 use Rattle.words.specs.Choice.{bit}
+use Rattle.words.proofs.Choice.{bit-test}
 use Rattle.sm3_compress.specs.Standard.{CF}
 use Rattle.mac_blocks.specs.Schedule.{schedule, final, innerBlock}
 use Rattle.mac_blocks.proofs.Byte.{take-min, final-text}
-use Rattle.mac_blocks.proofs.Choice.{bit-test}
 use Rattle.mac_blocks.proofs.inner_block.Statement.{statement}
 use Rattle.mac_blocks.proofs.inner_block.Tie as tie
 

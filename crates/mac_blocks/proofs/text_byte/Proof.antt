@@ -6,8 +6,8 @@ use Prim.Native.Nat.{ℕ, _+_}
 use borrow.Author.Needs.{needs}
 use lib.Dec.{eqb, ltb}
 use lib.ListN.{length}
+use Rattle.words.proofs.Choice.{chosen-by}
 use Rattle.mac_blocks.proofs.Byte.{byte-marked}
-use Rattle.mac_blocks.proofs.Choice.{chosen-by}
 use Rattle.mac_blocks.proofs.text_byte.Statement.{statement}
 use Rattle.mac_blocks.proofs.text_byte.Tie as tie
 

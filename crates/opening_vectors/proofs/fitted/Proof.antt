@@ -6,18 +6,12 @@ use lib.Seq.{length-take-le}
 use Rattle.opening_vectors.proofs.fitted.Statement.{statement}
 use Rattle.opening_vectors.proofs.fitted.Tie as tie
 
-slice-aggregate-opened : tie.Need-slice-aggregate-opened
-slice-aggregate-opened c = sym (length-take-le _ _ (omega arith))
-
-slice-aggregate-opened-2 : tie.Need-slice-aggregate-opened-2
-slice-aggregate-opened-2 c = sym (length-take-le _ _ (omega arith))
-
 pub fitted-spec : {M : Type 1} → statement M
 fitted-spec =
     tie.close
     (tie.spec
-    slice-aggregate-opened
+    (λ c. sym (length-take-le _ _ (omega arith)))
     (λ c. search needs)
-    slice-aggregate-opened-2
+    (λ c. sym (length-take-le _ _ (omega arith)))
     (λ c κs. search needs)
     (λ c. search needs))

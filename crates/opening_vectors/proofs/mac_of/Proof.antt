@@ -5,9 +5,6 @@ use lib.Seq.{length-take-le}
 use Rattle.opening_vectors.proofs.mac_of.Statement.{statement}
 use Rattle.opening_vectors.proofs.mac_of.Tie as tie
 
-slice-aggregate-hmac-sm3-2 : tie.Need-slice-aggregate-hmac-sm3-2
-slice-aggregate-hmac-sm3-2 c = sym (length-take-le _ _ (search needs))
-
 pub mac-of-spec : {M : Type 1} → statement M
 mac-of-spec =
     tie.close
@@ -19,6 +16,6 @@ mac-of-spec =
     (λ c. search needs)
     (λ c. search needs)
     (λ c. search needs)
-    slice-aggregate-hmac-sm3-2
+    (λ c. sym (length-take-le _ _ (search needs)))
     (λ c κs. search needs)
     (λ c. search needs))

@@ -6,15 +6,12 @@ use lib.Seq.{length-take-le}
 use Rattle.opening_vectors.proofs.sealed.Statement.{statement}
 use Rattle.opening_vectors.proofs.sealed.Tie as tie
 
-slice-aggregate-make : tie.Need-slice-aggregate-make
-slice-aggregate-make c = sym (length-take-le _ _ (omega arith))
-
 pub sealed-spec : {M : Type 1} → statement M
 sealed-spec =
     tie.close
     (tie.spec
     (λ c. search needs)
-    slice-aggregate-make
+    (λ c. sym (length-take-le _ _ (omega arith)))
     (λ c κs. search needs)
     (λ c. search needs)
     (λ c. search needs))

@@ -1,7 +1,7 @@
 -- `padding::differs` meets its contract: a select by a test. Assumes nothing.
 use borrow.Author.Needs.{needs}
 use Rattle.words.specs.Word.{_⊕_}
-use Rattle.padding.proofs.Masks.{chosen-bit}
+use Rattle.words.proofs.Choice.{chosen-bit}
 use Rattle.padding.proofs.differs.Statement.{statement}
 use Rattle.padding.proofs.differs.Tie as tie
 

@@ -98,7 +98,7 @@ returns-3 c =
     let is-tag : mac .record-mac .result ≡ tag e (text e) = rw (mac .record-mac .ensures, covered .record-header .ensures) in
     let rks : List ℕ = roundKeys (a .keys .«enc_key») in
     record {
-      result = rw (done e, e .before .sealed-length .ensures);
+      result = rw (done e) (ap (λ (n : ℕ). record { answer = Done; length = n }) (e .before .sealed-length .ensures));
       output = rw (done e)
           (record-laid (encrypt rks) (λ b. encrypt-block rks b .size) (a .t5) (body e) (a .out .now) (iv-length (s e)) (n .2) (n .1)
           (first .copy-at .last .0) (laid .lay-body .last .1 .1 .0) (sealed .encipher-cbc .last .1 .1 .0)

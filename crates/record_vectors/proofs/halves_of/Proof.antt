@@ -6,9 +6,13 @@ use lib.Seq.{length-take-le}
 use Rattle.record_vectors.proofs.halves_of.Statement.{statement}
 use Rattle.record_vectors.proofs.halves_of.Tie as tie
 
-slice-aggregate-halves : tie.Need-slice-aggregate-halves
-slice-aggregate-halves c = sym (length-take-le _ _ (omega arith))
-
 pub halves-of-spec : {M : Type 1} → statement M
 halves-of-spec =
-    tie.close (tie.spec (λ c κs. search needs) (λ c. search needs) slice-aggregate-halves (λ c κs. search needs) (λ c. search needs))
+    tie.close
+    (tie.spec
+    (λ c. search needs)
+    (λ c κs. search needs)
+    (λ c. search needs)
+    (λ c. sym (length-take-le _ _ (omega arith)))
+    (λ c κs. search needs)
+    (λ c. search needs))

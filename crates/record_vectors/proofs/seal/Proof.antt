@@ -7,26 +7,18 @@ use lib.Seq.{length-take-le}
 use Rattle.record_vectors.proofs.seal.Statement.{statement}
 use Rattle.record_vectors.proofs.seal.Tie as tie
 
-slice-aggregate-from-key-block : tie.Need-slice-aggregate-from-key-block
-slice-aggregate-from-key-block c = simp length-take (omega arith)
-
-slice-aggregate-sealed : tie.Need-slice-aggregate-sealed
-slice-aggregate-sealed c = sym (length-take-le _ _ (omega arith))
-
-slice-aggregate-sealed-2 : tie.Need-slice-aggregate-sealed-2
-slice-aggregate-sealed-2 c = sym (length-take-le _ _ (omega arith))
-
 pub seal-spec : {M : Type 1} → statement M
 seal-spec =
     tie.close
     (tie.spec
+    (λ c. search needs)
     (λ c κs. search needs)
     (λ c. search needs)
-    slice-aggregate-from-key-block
+    (λ c. simp length-take (omega arith))
     (λ c κs. search needs)
     (λ c. search needs)
-    slice-aggregate-sealed
+    (λ c. sym (length-take-le _ _ (omega arith)))
     (λ c. search needs)
-    slice-aggregate-sealed-2
+    (λ c. sym (length-take-le _ _ (omega arith)))
     (λ c κs. search needs)
     (λ c. search needs))

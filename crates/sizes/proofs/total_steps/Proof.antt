@@ -1,6 +1,4 @@
 -- `sizes::total_steps` meets its contract: m and B are a sixteenth and a sixty-fourth of n, so no sum wraps. Assumes nothing.
-use mathlib.Core.Path.{ap}
-use Prim.Native.Nat.{ℕ, _+_, _/_}
 use native.Mathlib.Omega.{arith}
 use borrow.Author.Needs.{needs}
 use Rattle.sizes.specs.Sizes.{macSteps, totalSteps}

@@ -13,10 +13,10 @@ use Rattle.sm4.proofs.crypt.Statement.{statement}
 use Rattle.sm4.proofs.crypt.Tie as tie
 
 abbrev Inv-loop : tie.InvT-loop
-Inv-loop reverse rk x₀ i₀ x i = (i ≤ 32) × (rounds x (drop i (ordered reverse rk)) ≡ rounds x₀ (ordered reverse rk))
+Inv-loop reverse t n rk x₀ i₀ x i = (i ≤ 32) × (rounds x (drop i (ordered reverse rk)) ≡ rounds x₀ (ordered reverse rk))
 
 abbrev μ-loop : tie.MeasureT-loop
-μ-loop reverse rk x₀ i₀ x i = 32 - i
+μ-loop reverse t n rk x₀ i₀ x i = 32 - i
 
 loop-holds : tie.Need-loop-holds Inv-loop μ-loop
 loop-holds c = (omega arith, refl)
@@ -56,7 +56,7 @@ crypt-spec =
     (λ c κs. search needs)
     loop-holds
     (λ c κs. omega arith)
-    (λ c κs. search needs)
+    (λ c κs. c .before .before .before .before .before .pre)
     (λ c. omega arith)
     (λ c. omega arith)
     loop-again

@@ -13,5 +13,5 @@ pub data-round-spec : {M : Type 1} → statement M
 data-round-spec =
     tie.close
     (tie.spec
-    (λ c κs. search needs)
+    (λ c κs. c .before .before .pre)
     returns)

@@ -13,11 +13,11 @@ use Rattle.sm4.proofs.expand.Statement.{statement}
 use Rattle.sm4.proofs.expand.Tie as tie
 
 abbrev Inv-loop : tie.InvT-loop
-Inv-loop ck k₀ rk₀ i₀ k rk i =
+Inv-loop ck t n k₀ rk₀ i₀ k rk i =
     (i ≤ 32) × (length rk ≡ 32) × (take i rk ++ keysFrom k i (32 - i) ≡ keysFrom k₀ 0 32)
 
 abbrev μ-loop : tie.MeasureT-loop
-μ-loop ck k₀ rk₀ i₀ k rk i = 32 - i
+μ-loop ck t n k₀ rk₀ i₀ k rk i = 32 - i
 
 loop-holds : tie.Need-loop-holds Inv-loop μ-loop
 loop-holds c = (omega arith, refl, refl)
@@ -26,7 +26,7 @@ loop-again : tie.Need-loop-again Inv-loop μ-loop
 loop-again c =
     let s = c .before .before .before in
     let l = s .loop in
-    let e = c .key-round .ensures ∙ ap (keyRound (l .k)) (s .before .pre .entry (l .i) (omega arith)) in (
+    let e = c .key-round .ensures ∙ ap (keyRound (l .k)) (s .before .pre .0 .entry (l .i) (omega arith)) in (
       omega arith,
       length-set (l .rk) (l .i) (c .key-round .result .x3) ∙ l .inv .1,
       ap (λ (q : Quad). take (l .i + 1) (set (l .rk) (l .i) (q .x3)) ++ keysFrom q (l .i + 1) (32 - (l .i + 1))) e
@@ -48,7 +48,7 @@ expand-spec =
     loop-holds
     (λ c. omega arith)
     (λ c. omega arith)
-    (λ c κs. search needs)
+    (λ c κs. c .before .before .before .pre .1)
     (λ c. omega arith)
     (λ c. omega arith)
     (λ c. omega arith)

@@ -13,5 +13,5 @@ pub key-round-spec : {M : Type 1} → statement M
 key-round-spec =
     tie.close
     (tie.spec
-    (λ c κs. search needs)
+    (λ c κs. c .before .before .pre)
     returns)

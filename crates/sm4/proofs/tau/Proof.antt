@@ -8,14 +8,12 @@ use Rattle.sm4.proofs.tau.Tie as tie
 returns : tie.Need-returns
 unfolding tau be
 returns c =
-    let bytes = c .before .before .before .before .before .u32-to-be-bytes .ensures in
+    let s = c .before .before .before in
     simp (
       c .u32-from-be-bytes .ensures,
-      c .before .sbox-ct4 .ensures,
-      c .before .before .sbox-ct3 .ensures,
-      c .before .before .before .sbox-ct2 .ensures,
-      c .before .before .before .before .sbox-ct .ensures,
-      bytes,
+      c .before .select4 .ensures,
+      s .pre .entry,
+      c .before .before .u32-to-be-bytes .ensures,
     )
 
 pub tau-spec : {M : Type 1} → statement M
@@ -24,12 +22,9 @@ tau-spec =
     (tie.spec
     (λ c κs. search needs)
     (λ c. search needs)
-    (λ c κs. search needs)
     (λ c. search needs)
-    (λ c κs. search needs)
     (λ c. search needs)
-    (λ c κs. search needs)
     (λ c. search needs)
-    (λ c κs. search needs)
+    (λ c κs. c .before .pre .places)
     (λ c κs. search needs)
     returns)

@@ -1,16 +1,16 @@
--- `sm4_published::ecb` is safe and ends. The loop's invariant: k is at most the number of whole blocks; the measure is
--- how many are left. Assumes nothing.
-use Prim.Native.Nat.{_-_, _/_, _≤_}
+-- `sm4_published::ecb` meets its contract: no copy changes a length. The loop's measure is how many blocks are left. Assumes nothing.
+use mathlib.Core.Path.{_≡_}
+use Prim.Native.Nat.{_-_, _≤_}
 use borrow.Author.Needs.{needs}
 use lib.ListN.{length}
 use Rattle.sm4_published.proofs.ecb.Statement.{statement}
 use Rattle.sm4_published.proofs.ecb.Tie as tie
 
 abbrev Inv-loop : tie.InvT-loop
-Inv-loop cipher «data» back k₀ _ _ k = k ≤ length «data» / 16
+Inv-loop cipher back «data» out₀ k₀ out k = (k ≤ 8) × (length «data» ≡ 128) × (length out ≡ 128)
 
 abbrev μ-loop : tie.MeasureT-loop
-μ-loop cipher «data» back k₀ _ _ k = length «data» / 16 - k
+μ-loop cipher back «data» out₀ k₀ out k = 8 - k
 
 pub ecb-spec : {M : Type 1} → statement M
 ecb-spec =
@@ -19,7 +19,6 @@ ecb-spec =
     Inv-loop
     μ-loop
     (λ c. search needs)
-    (λ c κs. search needs)
     (λ c. search needs)
     (λ c. search needs)
     (λ c κs. search needs)
@@ -27,6 +26,8 @@ ecb-spec =
     (λ c. search needs)
     (λ c. search needs)
     (λ c. search needs)
-    (λ c. search needs)
     (λ c κs. search needs)
+    (λ c. search needs)
+    (λ c. search needs)
+    (λ c. search needs)
     (λ c. search needs))

@@ -6,9 +6,6 @@ use lib.Seq.{length-take-le}
 use Rattle.sm4_published.proofs.published_cbc.Statement.{statement}
 use Rattle.sm4_published.proofs.published_cbc.Tie as tie
 
-slice-aggregate-both-cbc : tie.Need-slice-aggregate-both-cbc
-slice-aggregate-both-cbc c = sym (length-take-le _ _ (omega arith))
-
 pub published-cbc-spec : {M : Type 1} → statement M
 published-cbc-spec =
     tie.close
@@ -18,6 +15,6 @@ published-cbc-spec =
     (λ c κs. search needs)
     (λ c κs. search needs)
     (λ c. search needs)
-    slice-aggregate-both-cbc
+    (λ c. sym (length-take-le _ _ (omega arith)))
     (λ c κs. search needs)
     (λ c. search needs))

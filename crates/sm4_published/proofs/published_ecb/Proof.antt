@@ -6,12 +6,6 @@ use lib.Seq.{length-take-le}
 use Rattle.sm4_published.proofs.published_ecb.Statement.{statement}
 use Rattle.sm4_published.proofs.published_ecb.Tie as tie
 
-slice-aggregate-ecb : tie.Need-slice-aggregate-ecb
-slice-aggregate-ecb c = sym (length-take-le _ _ (omega arith))
-
-slice-aggregate-ecb-2 : tie.Need-slice-aggregate-ecb-2
-slice-aggregate-ecb-2 c = sym (length-take-le _ _ (omega arith))
-
 pub published-ecb-spec : {M : Type 1} → statement M
 published-ecb-spec =
     tie.close
@@ -21,15 +15,15 @@ published-ecb-spec =
     (λ c κs. search needs)
     (λ c κs. search needs)
     (λ c κs. search needs)
-    (λ c. search needs)
-    (λ c κs. search needs)
-    (λ c. search needs)
-    slice-aggregate-ecb
     (λ c κs. search needs)
     (λ c κs. search needs)
     (λ c. search needs)
+    (λ c. search needs)
+    (λ c. sym (length-take-le _ _ (omega arith)))
+    (λ c κs. search needs)
     (λ c κs. search needs)
     (λ c. search needs)
-    slice-aggregate-ecb-2
+    (λ c. search needs)
+    (λ c. sym (length-take-le _ _ (omega arith)))
     (λ c κs. search needs)
     (λ c. search needs))

@@ -1,21 +1,15 @@
 -- `sm4_sbox::keep` meets its contract: a comparison as a number is 1 or 0. Assumes nothing.
-use mathlib.Core.Bool.{Bool, true, false}
 use mathlib.Core.Path.{ap}
-use Prim.Native.Nat.{ℕ, _*_, _<_}
-use native.Mathlib.Nat.{mul-one, mul-zero}
+use Prim.Native.Nat.{ℕ, _*_}
 use borrow.Author.Needs.{needs}
-use lib.Dec.{eqb, lit<}
-use mir.Val.{boolByte}
+use lib.Dec.{eqb}
 use Rattle.words.proofs.Choice.{bool-bit}
+use Rattle.sm4_sbox.proofs.Pass.{kept-byte}
 use Rattle.sm4_sbox.proofs.keep.Statement.{statement}
 use Rattle.sm4_sbox.proofs.keep.Tie as tie
 
-below : (e : ℕ) (b : Bool) → e < 256 → e * boolByte b < 256
-below e true h = rw (mul-one e) h
-below e false h = rw (mul-zero e) (lit< tt)
-
 mul-result : tie.Need-mul-result
-mul-result c = record { fits = below (c .args .e) (eqb (c .args .k) (c .args .x)) (c .fits .e .fits) }
+mul-result c = record { fits = kept-byte (c .args .e) (eqb (c .args .k) (c .args .x)) (c .fits .e .fits) }
 
 returns : tie.Need-returns
 returns c =

@@ -6,17 +6,15 @@ use lib.Seq.{length-take-le}
 use Rattle.sm4_vectors.proofs.body.Statement.{statement}
 use Rattle.sm4_vectors.proofs.body.Tie as tie
 
-slice-aggregate-both-cbc : tie.Need-slice-aggregate-both-cbc
-slice-aggregate-both-cbc c = sym (length-take-le _ _ (omega arith))
-
 pub body-spec : {M : Type 1} → statement M
 body-spec =
     tie.close
     (tie.spec
+    (λ c. search needs)
     (λ c κs. search needs)
     (λ c κs. search needs)
     (λ c κs. search needs)
     (λ c. search needs)
-    slice-aggregate-both-cbc
+    (λ c. sym (length-take-le _ _ (omega arith)))
     (λ c κs. search needs)
     (λ c. search needs))

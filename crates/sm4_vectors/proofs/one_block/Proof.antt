@@ -6,18 +6,10 @@ use lib.Seq.{length-take-le}
 use Rattle.sm4_vectors.proofs.one_block.Statement.{statement}
 use Rattle.sm4_vectors.proofs.one_block.Tie as tie
 
-slice-aggregate-asked : tie.Need-slice-aggregate-asked
-slice-aggregate-asked c = sym (length-take-le _ _ (omega arith))
-
-slice-aggregate-asked-2 : tie.Need-slice-aggregate-asked-2
-slice-aggregate-asked-2 c = sym (length-take-le _ _ (omega arith))
-
 pub one-block-spec : {M : Type 1} → statement M
 one-block-spec =
     tie.close
     (tie.spec
-    (λ c κs. search needs)
-    (λ c κs. search needs)
     (λ c. search needs)
     (λ c κs. search needs)
     (λ c. search needs)
@@ -25,10 +17,8 @@ one-block-spec =
     (λ c. search needs)
     (λ c κs. search needs)
     (λ c. search needs)
-    (λ c κs. search needs)
+    (λ c. sym (length-take-le _ _ (omega arith)))
     (λ c. search needs)
-    slice-aggregate-asked
-    (λ c. search needs)
-    slice-aggregate-asked-2
+    (λ c. sym (length-take-le _ _ (omega arith)))
     (λ c κs. search needs)
     (λ c. search needs))

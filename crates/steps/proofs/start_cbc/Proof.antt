@@ -1,9 +1,9 @@
 -- `steps::start_cbc` meets its contract: the all-zero opening, or that with keys, header parts and sizes set. Assumes nothing.
-use mathlib.Core.Path.{refl, sym, _∙_}
+use mathlib.Core.Path.{sym, _∙_}
 use native.Mathlib.Omega.{arith}
 use borrow.Author.Needs.{needs}
 use borrow.Author.Tests.{eq-eqb, ne-eqb}
-use Rattle.steps.specs.State.{endedWith, begun, startAnswer, started}
+use Rattle.steps.specs.State.{endedWith, begun, started}
 use Rattle.steps.proofs.Sound.{start-passed}
 use Rattle.steps.proofs.start_cbc.Statement.{statement}
 use Rattle.steps.proofs.start_cbc.Tie as tie

@@ -1,5 +1,5 @@
 -- `vectors::cut` is safe and ends. The loop's invariant: k is at most the length, and behind at, below 256, the pattern has
--- more than any byte can ask for; the measure is how many sizes are left. Assumes nothing.
+-- more than any length asks for; the measure is how many sizes are left. Assumes nothing.
 use mathlib.Core.Path.{_≡_}
 use Prim.Native.Nat.{_-_, _≤_, _<_}
 use borrow.Author.Needs.{needs}
@@ -19,13 +19,14 @@ cut-spec =
     (tie.spec
     Inv-loop
     μ-loop
+    (λ c. search needs)
     (λ c κs. search needs)
     (λ c κs. search needs)
     (λ c. search needs)
     (λ c κs. search needs)
     (λ c. search needs)
     (λ c. search needs)
-    (λ c κs. search needs)
+    (λ c. search needs)
     (λ c. search needs)
     (λ c κs. search needs)
     (λ c. search needs)

@@ -1,5 +1,5 @@
--- `vectors::lengths` is safe and ends. The loop's invariant: k is at most the length, and the pattern is longer than any byte
--- can ask for; the measure is how many lengths are left. Assumes nothing.
+-- `vectors::lengths` is safe and ends. The loop's invariant: k is at most the length, and the pattern is longer than any length
+-- asks for; the measure is how many lengths are left. Assumes nothing.
 use mathlib.Core.Path.{_≡_, sym}
 use Prim.Native.Nat.{_-_, _≤_}
 use native.Mathlib.Omega.{arith}
@@ -10,13 +10,10 @@ use Rattle.vectors.proofs.lengths.Statement.{statement}
 use Rattle.vectors.proofs.lengths.Tie as tie
 
 abbrev Inv-loop : tie.InvT-loop
-Inv-loop ns m k₀ _ _ _ k = (k ≤ length ns) × (length m ≡ 512)
+Inv-loop ns m k₀ _ _ _ _ k = (k ≤ length ns) × (length m ≡ 512)
 
 abbrev μ-loop : tie.MeasureT-loop
-μ-loop ns m k₀ _ _ _ k = length ns - k
-
-slice-aggregate-hash : tie.Need-slice-aggregate-hash Inv-loop μ-loop
-slice-aggregate-hash c = sym (length-take-le _ _ (omega arith))
+μ-loop ns m k₀ _ _ _ _ k = length ns - k
 
 pub lengths-spec : {M : Type 1} → statement M
 lengths-spec =
@@ -24,16 +21,18 @@ lengths-spec =
     (tie.spec
     Inv-loop
     μ-loop
-    (λ c κs. search needs)
-    (λ c. search needs)
     (λ c. search needs)
     (λ c κs. search needs)
     (λ c. search needs)
-    (λ c κs. search needs)
+    (λ c. search needs)
+    (λ c. search needs)
     (λ c. search needs)
     (λ c κs. search needs)
     (λ c. search needs)
-    slice-aggregate-hash
+    (λ c κs. search needs)
+    (λ c. search needs)
+    (λ c. search needs)
+    (λ c. sym (length-take-le _ _ (omega arith)))
     (λ c κs. search needs)
     (λ c κs. search needs)
     (λ c. search needs)

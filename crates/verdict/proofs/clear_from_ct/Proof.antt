@@ -5,9 +5,9 @@ use Prim.Native.Nat.{_-_}
 use native.Mathlib.Omega.{arith}
 use borrow.Author.Needs.{needs}
 use lib.ListN.{length}
+use Rattle.words.proofs.Over.{Over, over-none, over-length, over-here, over-more, over-all}
 use Rattle.verdict.specs.Verdict.{clearedFrom}
 use Rattle.verdict.proofs.Cleared.{length-cleared, getD-cleared}
-use Rattle.verdict.proofs.Over.{Over, over-none, over-length, over-here, over-more, over-all}
 use Rattle.verdict.proofs.clear_from_ct.Statement.{statement}
 use Rattle.verdict.proofs.clear_from_ct.Tie as tie
 

@@ -50,10 +50,8 @@ returns-4 c =
     let b = c .before .before .before .before .copy-at2 .ensures .output in
     let v = c .before .before .compress .ensures in
     let x = part-to-end (64 - s .«buffer_len») (a .«data» .now) in
-    accepted s (c .absorb2 .result) (a .«data» .now) (omega arith)
-    (c .absorb2 .ensures
-    ∙ rw (v, b, t, x)
-    (sym (taken-full s (a .«data» .now) (search needs) (omega arith) (omega arith) (omega arith))))
+    let full = taken-full s (a .«data» .now) (search needs) (omega arith) (omega arith) (omega arith) in
+    accepted s (c .absorb2 .result) (a .«data» .now) (omega arith) (c .absorb2 .ensures ∙ rw (v, b, t, x) (sym full))
 
 pub update-spec : {M : Type 1} → statement M
 update-spec =

@@ -1,0 +1,5 @@
+mod Scans
+mod Fields
+mod Numbers
+mod Fitting
+pub mod OneOutcome

@@ -1,0 +1,86 @@
+-- `sm3_compress::late_rounds` meets its contract. The loop's invariant: v is the state behind the first 4 i of these rounds; the
+-- measure is what is left of 12 turns. Assumes nothing.
+use mathlib.Core.Path.{_≡_, refl}
+use Prim.Native.Nat.{_+_, _*_, _-_, _≤_}
+use native.Mathlib.Omega.{arith}
+use borrow.Author.Needs.{needs}
+use Rattle.sm3_compress.specs.Rounds.{roundsFrom}
+use Rattle.sm3_compress.proofs.Rounds.{round-more}
+use Rattle.sm3_compress.proofs.late_rounds.Statement.{statement}
+use Rattle.sm3_compress.proofs.late_rounds.Tie as tie
+
+abbrev Inv-loop : tie.InvT-loop
+Inv-loop w wp v₀ i₀ v i = (i ≤ 12) × (v ≡ roundsFrom w wp 16 (i * 4) v₀)
+
+abbrev μ-loop : tie.MeasureT-loop
+μ-loop w wp v₀ i₀ v i = 12 - i
+
+loop-holds : tie.Need-loop-holds Inv-loop μ-loop
+unfolding roundsFrom
+loop-holds c = (omega arith, refl)
+
+loop-again : tie.Need-loop-again Inv-loop μ-loop
+loop-again c =
+    let r3 = c .before .before .before in
+    let r2 = r3 .before .before .before in
+    let r1 = r2 .before .before .before in
+    let l = r1 .before .before .before .before .loop in
+    let n = l .i * 4 in
+    let v1 = round-more _ _ _ _ _ 16 n (n + 1) _ (omega arith) (omega arith) (l .inv .1) (r1 .one-round .ensures) in
+    let v2 = round-more _ _ _ _ _ 16 (n + 1) (n + 2) _ (omega arith) (omega arith) v1 (r2 .one-round2 .ensures) in
+    let v3 = round-more _ _ _ _ _ 16 (n + 2) (n + 3) _ (omega arith) (omega arith) v2 (r3 .one-round3 .ensures) in
+    let v4 = round-more _ _ _ _ _ 16 (n + 3) ((l .i + 1) * 4) _ (omega arith) (omega arith) v3 (c .one-round4 .ensures) in
+    (omega arith, v4)
+
+returns : tie.Need-returns Inv-loop μ-loop
+returns c =
+    let l = c .before .loop in
+    let e : l .i * 4 ≡ 48 = omega arith in
+    rw e at (l .inv .1)
+
+pub late-rounds-spec : {M : Type 1} → statement M
+late-rounds-spec =
+    tie.close
+    (tie.spec
+    Inv-loop
+    μ-loop
+    loop-holds
+    (λ c. omega arith)
+    (λ c. omega arith)
+    (λ c. search needs)
+    (λ c. omega arith)
+    (λ c. omega arith)
+    (λ c. omega arith)
+    (λ c. omega arith)
+    (λ c κs. search needs)
+    (λ c. omega arith)
+    (λ c. search needs)
+    (λ c. omega arith)
+    (λ c. omega arith)
+    (λ c. omega arith)
+    (λ c. omega arith)
+    (λ c. omega arith)
+    (λ c. omega arith)
+    (λ c κs. search needs)
+    (λ c. omega arith)
+    (λ c. search needs)
+    (λ c. omega arith)
+    (λ c. omega arith)
+    (λ c. omega arith)
+    (λ c. omega arith)
+    (λ c. omega arith)
+    (λ c. omega arith)
+    (λ c κs. search needs)
+    (λ c. omega arith)
+    (λ c. search needs)
+    (λ c. omega arith)
+    (λ c. omega arith)
+    (λ c. omega arith)
+    (λ c. omega arith)
+    (λ c. omega arith)
+    (λ c. omega arith)
+    (λ c κs. search needs)
+    (λ c. omega arith)
+    (λ c. omega arith)
+    loop-again
+    returns)
