@@ -111,7 +111,6 @@ bench: bench-packages workspace
 	@for crate in border sm4_timing; do \
 	    if [ "$$(uname -m)" = x86_64 ]; then rt staticlib $$crate && cp target/staticlib/lib$$crate.a build/timing/; \
 	    else bench/native $$crate build/timing/lib$$crate.a timing; fi || exit 1; done
-	@cmp -s bench/src/calls.rs build/oracle/bench/src/calls.rs || cp bench/src/calls.rs build/oracle/bench/src/
 	@$(CC) -O2 -Wall -Wextra -c bench/beside.c -o build/timing/beside.o
 	@$(CC) -O2 -Wall -Wextra -c bench/thread.c -o build/timing/thread.o
 	@$(CC) -O3 -DSCAN=gcc -c bench/scan.c -o build/timing/scan-gcc.o

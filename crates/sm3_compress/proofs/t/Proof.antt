@@ -6,11 +6,11 @@ use Rattle.sm3_compress.proofs.t.Tie as tie
 
 returns : tie.Need-returns
 unfolding T
-returns c = simp (lt-ltb _ _ (c .if1 .taken))
+returns c = rw (lt-ltb _ 16 (c .if1 .taken))
 
 returns-2 : tie.Need-returns-2
 unfolding T
-returns-2 c = simp (le-ltb _ _ (c .if1 .left))
+returns-2 c = rw (le-ltb _ 16 (c .if1 .left))
 
 pub t-spec : {M : Type 1} → statement M
 t-spec = tie.close (tie.spec returns returns-2)

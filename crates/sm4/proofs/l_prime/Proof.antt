@@ -7,7 +7,7 @@ use Rattle.sm4.proofs.l_prime.Tie as tie
 
 returns : tie.Need-returns
 unfolding L′ _⊕_
-returns c = cc
+returns c = rw (c .rotate-left2 .ensures, c .before .rotate-left .ensures)
 
 pub l-prime-spec : {M : Type 1} → statement M
 l-prime-spec =

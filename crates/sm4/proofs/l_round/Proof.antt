@@ -7,7 +7,13 @@ use Rattle.sm4.proofs.l_round.Tie as tie
 
 returns : tie.Need-returns
 unfolding L _⊕_
-returns c = cc
+returns c =
+    rw (
+      c .rotate-left4 .ensures,
+      c .before .rotate-left3 .ensures,
+      c .before .before .rotate-left2 .ensures,
+      c .before .before .before .rotate-left .ensures,
+    )
 
 pub l-round-spec : {M : Type 1} → statement M
 l-round-spec =

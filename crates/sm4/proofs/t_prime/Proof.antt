@@ -6,7 +6,7 @@ use Rattle.sm4.proofs.t_prime.Tie as tie
 
 returns : tie.Need-returns
 unfolding T′
-returns c = cc
+returns c = rw (c .l-prime .ensures, c .before .tau .ensures)
 
 pub t-prime-spec : {M : Type 1} → statement M
 t-prime-spec =

@@ -6,7 +6,7 @@ use Rattle.sm4.proofs.t_round.Tie as tie
 
 returns : tie.Need-returns
 unfolding T
-returns c = cc
+returns c = rw (c .l-round .ensures, c .before .tau .ensures)
 
 pub t-round-spec : {M : Type 1} → statement M
 t-round-spec =

@@ -15,7 +15,7 @@ use Rattle.sm3.proofs.Sm3.update.Tie as tie
 
 returns : tie.Need-returns
 unfolding updated
-returns c = simp (le-ltb _ _ (c .if1 .taken))
+returns c = rw (le-ltb _ 64 (c .if1 .taken))
 
 -- no byte waits
 returns-2 : tie.Need-returns-2
