@@ -2,7 +2,7 @@
 -- Assumes nothing.
 use mathlib.Core.Bool.{Bool, true, false, cond}
 use mathlib.Core.List.{List}
-use mathlib.Core.Path.{_≡_, refl, sym, ap₂}
+use mathlib.Core.Path.{_≡_, refl, sym, ap, ap₂, _∙_}
 use Prim.Native.Nat.{ℕ, zero, suc, _+_, _-_, _≤_, _<_}
 use native.Mathlib.Omega.{arith}
 use borrow.Author.Tests.{le-ltb, lt-leb, eq-eqb}
@@ -17,15 +17,17 @@ use Rattle.steps.specs.declared.Stepped.{Stepped}
 use Rattle.steps.specs.State.{begun, startAnswer, started}
 use Rattle.steps.specs.Step.{broken, stepped, outputAfter}
 use Rattle.steps.specs.Work.{Work, decipher, readPadding, inner, outerPad, outerHash, answering, workAt}
+use Rattle.steps.proofs.Sound.{at-decipher, at-padding, at-inner, at-outer-pad, at-outer-hash, at-answering}
 use Rattle.opening.specs.Closed.{heldAfter, running, reportAfter, outAfter, after}
 use Rattle.opening.specs.Given.{Given, size, decrypted}
 use Rattle.opening.proofs.Fields.{words-none, kept-none, held-none, mark-none}
 use Rattle.opening.proofs.Fits.{Fits, fits, held-fits}
 use Rattle.opening.proofs.Output.{out-blocks, length-out}
-use Rattle.opening.proofs.Place.{Place, deciphers, reads, hashes, pads, ends, answers, place, work-deciphers, work-reads, work-hashes, work-pads, work-ends, work-answers}
+use Rattle.opening.proofs.Place.{Place, deciphers, reads, hashes, pads, ends, answers, place}
 use Rattle.opening.proofs.Turn.{Turns, report-before, turn-deciphers, turn-reads, turn-hashes, turn-pads, turn-ends, turn-answers}
 
 module _ (g : Given) {o : List ℕ} (f : Fits g o) where
+  -- the number of steps
   abbrev T : ℕ
   T = totalSteps (size g)
 
@@ -52,11 +54,6 @@ module _ (g : Given) {o : List ℕ} (f : Fits g o) where
         le-ltb (length o) (size g) (f .room),
       )
 
-  -- nor ended
-  pub not-ended : (k : ℕ) → k < T → reportAfter g k .opening .ended ≡ false
-  unfolding running
-  not-ended k h = rw (report-before g k h)
-
   -- ---- one step
 
   -- the work that follows from n and k is done
@@ -77,12 +74,14 @@ module _ (g : Given) {o : List ℕ} (f : Fits g o) where
       by : Place (size g) k
           → (stepped (reportAfter g k .opening) (g .r) (outAfter g o k) ≡ reportAfter g (suc k))
           × (outputAfter (reportAfter g k .opening) (g .r) (outAfter g o k) ≡ outAfter g o (suc k))
-      by (deciphers b) = works k (decipher k) h (work-deciphers (size g) k b) (turn-deciphers g f k b)
-      by (reads e) = works k readPadding h (rw e (work-reads (size g))) (rw e (turn-reads g f))
-      by (hashes j b e) = works k (inner j) h (rw e (work-hashes (size g) j b)) (rw e (turn-hashes g f j b))
-      by (pads e) = works k outerPad h (rw e (work-pads (size g))) (rw e (turn-pads g f))
-      by (ends e) = works k outerHash h (rw e (work-ends (size g))) (rw e (turn-ends g f))
-      by (answers e) = works k answering h (rw e (work-answers (size g))) (rw e (turn-answers g f))
+      by (deciphers b) = works k (decipher k) h (at-decipher (size g) k b) (turn-deciphers g f k b)
+      by (reads e) = works k readPadding h (at-padding (size g) k e) (rw e (turn-reads g f))
+      by (hashes j b e) =
+          let is : k - (blocks (size g) + 1) ≡ j = omega arith in
+          works k (inner j) h (at-inner (size g) k (omega arith) (omega arith) ∙ ap inner is) (rw e (turn-hashes g f j b))
+      by (pads e) = works k outerPad h (at-outer-pad (size g) k e) (rw e (turn-pads g f))
+      by (ends e) = works k outerHash h (at-outer-hash (size g) k e) (rw e (turn-ends g f))
+      by (answers e) = works k answering h (at-answering (size g) k (omega arith)) (rw e (turn-answers g f))
 
   -- ---- from the start
 

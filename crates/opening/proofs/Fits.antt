@@ -1,14 +1,12 @@
 -- What an accepted start says of the sizes, and what the decryption of such a record is. Assumes nothing.
 use mathlib.Core.Bool.{Bool, true, false, cond}
 use mathlib.Core.List.{List}
-use mathlib.Core.Path.{_≡_, refl, ap, ap₂, _∙_}
+use mathlib.Core.Path.{_≡_, ap, ap₂, _∙_}
 use Prim.Native.Nat.{ℕ, _+_, _-_, _/_, _≤_, _<_}
 use native.Mathlib.Omega.{arith}
-use borrow.Author.Tests.{ltb-false, eqb-true, eqb-false}
-use lib.Dec.{eqb, ltb}
 use lib.ListN.{length, drop, length-append, length-drop, take-append-drop}
 use lib.Seq.{length-take-le}
-use Rattle.answers.specs.Answers.{Done, NoRoom}
+use Rattle.answers.specs.Answers.{Done}
 use Rattle.words.specs.Lists.{join}
 use Rattle.words.proofs.Lists.{length-join}
 use Rattle.sm4.specs.Standard.{decrypt, roundKeys}
@@ -17,10 +15,11 @@ use Rattle.cbc.proofs.Sm4.{length-plain}
 use Rattle.record.specs.Opened.{lastByte, goodPad, held, textIn}
 use Rattle.record.specs.Standard.{header}
 use Rattle.record.proofs.Header.{length-header}
-use Rattle.sizes.specs.Sizes.{sizeAnswer, macSteps}
-use Rattle.sizes.proofs.Passed.{Allowed, passed}
+use Rattle.sizes.specs.Sizes.{macSteps}
+use Rattle.sizes.proofs.Passed.{Allowed}
 use Rattle.mac_blocks.specs.Schedule.{final}
 use Rattle.steps.specs.State.{startAnswer}
+use Rattle.steps.proofs.Sound.{start-passed}
 use Rattle.opening.specs.Given.{Given, size, decrypted, covered}
 
 -- the record is an IV and an allowed body, the output has room for the body, and a version is two bytes
@@ -32,16 +31,10 @@ pub record Fits (g : Given) (o : List ℕ) : Type 0 where
 
 -- where the start is not refused
 pub fits : (g : Given) (o : List ℕ) → length (g .version) ≡ 2 → startAnswer (length (g .r)) (length o) ≡ Done → Fits g o
-unfolding startAnswer size
-fits g o v e = by (eqb (sizeAnswer (length (g .r))) Done) refl (ltb (length o) (length (g .r) - 16)) refl e
-  where
-    by : (a : Bool) → eqb (sizeAnswer (length (g .r))) Done ≡ a → (b : Bool) → ltb (length o) (length (g .r) - 16) ≡ b
-        → cond a (cond b NoRoom Done) (sizeAnswer (length (g .r))) ≡ Done → Fits g o
-    by true h false k z =
-        let p = passed (length (g .r)) (eqb-true (sizeAnswer (length (g .r))) Done h) in
-        record { sized = p .0; body = p .1; room = ltb-false (length o) (length (g .r) - 16) k; two = v }
-    by true h true k z = absurd (omega arith)
-    by false h b k z = absurd (eqb-false (sizeAnswer (length (g .r))) Done h z)
+unfolding size
+fits g o v e =
+    let p = start-passed (length (g .r)) (length o) e in
+    record { sized = p .0; body = p .1; room = p .2; two = v }
 
 -- the length held is at most n - 33
 pub held-most : (d : List ℕ) → held d ≤ length d - 33
