@@ -1,5 +1,4 @@
--- However a message is cut into updates, its digest is that of the whole; and no digest depends on the buffer's bytes
--- from the fill on. Assumes nothing.
+-- However a message is cut into updates, its digest is that of the whole. Assumes nothing.
 use mathlib.Core.Bool.{Bool, true, false, cond, _&&_}
 use mathlib.Core.Path.{_≡_, refl, sym, ap, ap₂, _∙_}
 use mathlib.Core.List.{List, [], _∷_, _++_, append-assoc, append-nil}
@@ -22,6 +21,7 @@ pub take-over : (x b : List ℕ) (n : ℕ) → length x ≡ n → take n (over x
 unfolding over
 take-over x b n e = take-at x (drop (length x) b) n e
 
+-- the length stays
 length-over : (x b : List ℕ) → length x ≤ length b → length (over x b) ≡ length b
 unfolding over
 length-over x b h = length-append x (drop (length x) b) ∙ rw (length-drop (length x) b) (omega arith)
@@ -44,18 +44,22 @@ record Holds (h : Sm3) (m : List ℕ) : Type 0 where
   fill : h .«buffer_len» ≡ length m % 64
   total : h .«total_len» ≡ length m % 2 ^ 64
 
+-- a fresh state has taken in nothing
 fresh-holds : Holds fresh []
 unfolding fresh rest iteration iterated
 fresh-holds = record { size = refl; words = refl; waiting = refl; fill = refl; total = refl }
 
 module _ (h : Sm3) (m d : List ℕ) (k : Holds h m) where
+  -- what is pending is what the whole blocks of m left, and d
   pending-rest : pending h d ≡ rest m ++ d
   unfolding pending
   pending-rest = ap (λ (r : List ℕ). r ++ d) (k .waiting)
 
+  -- so many bytes
   length-pending : length (pending h d) ≡ length m % 64 + length d
   length-pending = ap length pending-rest ∙ length-append (rest m) d ∙ ap (λ (n : ℕ). n + length d) (length-rest m)
 
+  -- with d taken in it holds m and d
   taken-holds : Holds (taken h d) (m ++ d)
   unfolding taken absorbed
   taken-holds =
@@ -70,6 +74,7 @@ module _ (h : Sm3) (m d : List ℕ) (k : Holds h m) where
         total = omega (arith, k .total, length-append m d);
       }
 
+  -- its fill is in range
   holds-fits : h .«buffer_len» < 64
   holds-fits = omega (arith, k .fill)
 
@@ -77,6 +82,7 @@ module _ (h : Sm3) (m d : List ℕ) (k : Holds h m) where
 updated-holds : (h : Sm3) (m d : List ℕ) → Holds h m → Holds (updated h d .hasher) (m ++ d)
 updated-holds h m d k = rw (update-takes h d (holds-fits h m d k)) (taken-holds h m d k)
 
+-- any number of updates more
 fed-holds : (h : Sm3) (m : List ℕ) (ds : List (List ℕ)) → Holds h m → Holds (fed h ds) (m ++ joined ds)
 unfolding fed joined
 fed-holds h m [] k = rw (append-nil m) k
@@ -88,6 +94,7 @@ ending-fill : (l t : ℕ) → ending (l % 64) t ≡ ending l t
 unfolding ending zeros
 ending-fill l t = let e : l % 64 % 64 ≡ l % 64 = omega arith in rw e
 
+-- its digest is the hash of the message
 holds-digest : (h : Sm3) (m : List ℕ) → Holds h m → finalized h ≡ hashed m
 unfolding hashed
 holds-digest h m k =

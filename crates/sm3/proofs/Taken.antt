@@ -60,14 +60,15 @@ absorbed-block v b a x t e =
     let n : length (a ++ x) % 64 ≡ length x % 64 = omega (arith, length-append a x) in
     rw (iteration-block v a x e, rest-append a x 1 e, n)
 
-module _ (h : Sm3) (d : List ℕ) (size : length (h .buffer) ≡ 64) (some : 0 < h .«buffer_len») (fits : h .«buffer_len» < 64) where
+-- bytes wait, and d comes behind them, with t for the total
+module _ (h : Sm3) (d : List ℕ) (t : ℕ) (size : length (h .buffer) ≡ 64) (some : 0 < h .«buffer_len») (fits : h .«buffer_len» < 64) where
   -- the block stays short
   pub taken-short : h .«buffer_len» + length d < 64
-      → taken h d ≡ made (h .state) (put (h .«buffer_len») d (h .buffer)) (h .«buffer_len» + length d) ((h .«total_len» + length d) % 2 ^ 64)
-  unfolding taken pending base over
+      → absorbed (h .state) (base h (pending h d)) t (pending h d)
+      ≡ made (h .state) (put (h .«buffer_len») d (h .buffer)) (h .«buffer_len» + length d) t
+  unfolding pending base over
   taken-short k =
       let f = h .«buffer_len» in
-      let t = (h .«total_len» + length d) % 2 ^ 64 in
       let p : List ℕ = take f (h .buffer) ++ d in
       let front : length (take f (h .buffer)) ≡ f = length-take-le f (h .buffer) (omega arith) in
       let n : length p ≡ f + length d = length-append (take f (h .buffer)) d ∙ omega arith in
@@ -82,12 +83,13 @@ module _ (h : Sm3) (d : List ℕ) (size : length (h .buffer) ≡ 64) (some : 0 <
 
   -- the block is completed and goes through
   pub taken-full : 64 - h .«buffer_len» ≤ length d
-      → taken h d ≡ absorbed
+      → absorbed (h .state) (base h (pending h d)) t (pending h d)
+      ≡ absorbed
       (CF (h .state) (put (h .«buffer_len») (take (64 - h .«buffer_len») d) (h .buffer)))
       (put (h .«buffer_len») (take (64 - h .«buffer_len») d) (h .buffer))
-      ((h .«total_len» + length d) % 2 ^ 64)
+      t
       (drop (64 - h .«buffer_len») d)
-  unfolding taken pending base
+  unfolding pending base
   taken-full k =
       let f = h .«buffer_len» in
       let need = 64 - f in
@@ -105,4 +107,4 @@ module _ (h : Sm3) (d : List ℕ) (size : length (h .buffer) ≡ 64) (some : 0 <
       ∙ ap (λ (r : List ℕ). r ++ drop need d) (sym filled) in
       let long : 64 ≤ length (b ++ drop need d) = rw (length-append b (drop need d)) (omega arith) in
       rw (whole, lt-ltb 0 f some, le-leb 64 (length (b ++ drop need d)) long, take-at b (drop need d) 64 size-b)
-      (absorbed-block (h .state) b b (drop need d) ((h .«total_len» + length d) % 2 ^ 64) size-b)
+      (absorbed-block (h .state) b b (drop need d) t size-b)

@@ -6,7 +6,7 @@ ghost use mathlib.Core.Path.{_≡_};
 ghost use Prim.Native.Nat.{_+_, _-_, _<_, _≤_};
 ghost use lib.ListN.{length, take, drop, replicate};
 ghost use Rattle.sm3.specs.Standard.{bytesOf, iteration, count};
-ghost use Rattle.sm3.specs.State.{fresh, absorbed, updated, finalized, hashed};
+ghost use Rattle.sm3.specs.State.{fresh, absorbed, pending, base, updated, finalized, hashed};
 use answers::BAD_STATE;
 use answers::DONE;
 use sm3_compress::compress;
@@ -88,6 +88,30 @@ fn absorb(state: [u32; 8], buffer: [u8; 64], total: u64, data: &[u8]) -> Sm3
     }
 }
 
+// data where bytes wait in the buffer: laid behind them, and where that completes a block, the block through and then the rest.
+fn absorb_behind(h: Sm3, total: u64, data: &[u8]) -> Sm3
+    requires { ⌜ (0 < h .«buffer_len») × (h .«buffer_len» < 64) ⌝ }
+    ensures { λ r.
+        ⌜ r ≡ absorbed (h .state) (base h (pending h (now («data» .entry)))) total (pending h (now («data» .entry))) ⌝ }
+{
+    let fill = h.buffer_len;
+    let state = h.state;
+    let mut buffer = h.buffer;
+    let need = BLOCK_SIZE - fill;
+    if data.len() < need {
+        words::copy_at(&mut buffer, fill, data);
+        return Sm3 {
+            state,
+            buffer,
+            buffer_len: fill + data.len(),
+            total_len: total,
+        };
+    }
+    words::copy_at(&mut buffer, fill, &data[..need]);
+    let next = compress(state, buffer);
+    absorb(next, buffer, total, &data[need..])
+}
+
 // The first fill bytes of the buffer, the ending's 0x80, and zeros.
 fn mark(buffer: [u8; 64], fill: usize) -> [u8; 64]
     requires { ⌜ fill < 64 ⌝ }
@@ -146,32 +170,16 @@ impl Sm3 {
             };
         }
         let total = std::num::wrapping_add_u64(self.total_len, data.len() as u64);
-        let state = self.state;
-        let mut buffer = self.buffer;
         if fill == 0 {
+            let state = self.state;
+            let buffer = self.buffer;
             let hasher = absorb(state, buffer, total, data);
             return Updated {
                 answer: DONE,
                 hasher,
             };
         }
-        let need = BLOCK_SIZE - fill;
-        if data.len() < need {
-            words::copy_at(&mut buffer, fill, data);
-            let hasher = Sm3 {
-                state,
-                buffer,
-                buffer_len: fill + data.len(),
-                total_len: total,
-            };
-            return Updated {
-                answer: DONE,
-                hasher,
-            };
-        }
-        words::copy_at(&mut buffer, fill, &data[..need]);
-        let next = compress(state, buffer);
-        let hasher = absorb(next, buffer, total, &data[need..]);
+        let hasher = absorb_behind(self, total, data);
         Updated {
             answer: DONE,
             hasher,
