@@ -5,7 +5,7 @@ ghost use mathlib.Core.List.{[], _∷_};
 ghost use mathlib.Core.Path.{_≡_};
 ghost use Prim.Native.Nat.{_<_};
 ghost use lib.ListN.{length, getD};
-ghost use Rattle.sm4_sbox.specs.Pass.{Kept, Counts};
+ghost use Rattle.sm4_sbox.specs.Pass.{Counts};
 ghost use Rattle.sm4.specs.Standard.{
   tau,
   L,
@@ -23,6 +23,8 @@ ghost use Rattle.sm4.specs.Standard.{
   cipherOf,
 };
 ghost use Rattle.sm4.specs.Tables.{Boxes, CKs, ordered};
+use masks::ct_eq_u8;
+use masks::select_u8;
 use sm4_sbox::COUNT;
 use sm4_sbox::S_BOX;
 use words::rotate_left;
@@ -83,13 +85,6 @@ pub struct Quad {
     pub x3: u32,
 }
 
-// e where k is x, else 0: a comparison taken as a number, and no branch.
-fn keep(e: u8, k: u8, x: u8) -> u8
-    ensures { λ r. ⌜ Kept e k x r ⌝ }
-{
-    e * ((k == x) as u8)
-}
-
 // The entries of t at a, b, c, d: `sbox_ct` four times in one pass over the whole table, so that each entry is read once for
 // the four. The places are read off n.
 fn select4(t: &[u8; 256], n: &[u8; 256], a: u8, b: u8, c: u8, d: u8) -> [u8; 4]
@@ -104,10 +99,10 @@ fn select4(t: &[u8; 256], n: &[u8; 256], a: u8, b: u8, c: u8, d: u8) -> [u8; 4]
     for i in 0..256 {
         let e = t[i];
         let k = n[i];
-        ra = ra + keep(e, k, a);
-        rb = rb + keep(e, k, b);
-        rc = rc + keep(e, k, c);
-        rd = rd + keep(e, k, d);
+        ra = ra + select_u8(0, e, ct_eq_u8(k, a));
+        rb = rb + select_u8(0, e, ct_eq_u8(k, b));
+        rc = rc + select_u8(0, e, ct_eq_u8(k, c));
+        rd = rd + select_u8(0, e, ct_eq_u8(k, d));
     }
     [ra, rb, rc, rd]
 }

@@ -2,7 +2,7 @@
 -- of the first i. Assumes nothing.
 use mathlib.Core.Bool.{Bool, true, false}
 use mathlib.Core.List.{List, [], _∷_}
-use mathlib.Core.Path.{_≡_, refl, ap, ap₂, _∙_}
+use mathlib.Core.Path.{_≡_, refl, sym, ap, ap₂, _∙_}
 use Prim.Native.Nat.{ℕ, zero, suc, _+_, _*_, _<_}
 use native.Mathlib.Nat.{add-zero, mul-one, mul-zero, zero-add, zero-mul}
 use native.Mathlib.Numerals.{add-one}
@@ -10,9 +10,9 @@ use native.Mathlib.Omega.{arith}
 use lib.Dec.{eqb, eqb·zero-suc, eqb·suc-zero, eqb·suc-suc, lit<}
 use lib.ListN.{getD, take}
 use lib.Seq.{getD-take}
-use mir.Val.{boolByte}
-use Rattle.words.specs.Choice.{bit}
-use Rattle.sm4_sbox.specs.Pass.{Kept, Counts}
+use Rattle.words.specs.Choice.{bit, chosen}
+use Rattle.words.proofs.Choice.{chosen-bit}
+use Rattle.sm4_sbox.specs.Pass.{Counts}
 
 -- one entry more
 pub pass-more : (t : List ℕ) (x i : ℕ) → getD (take i t) x 0 + getD t i 0 * bit (eqb i x) ≡ getD (take (suc i) t) x 0
@@ -23,19 +23,19 @@ pass-more (y ∷ t) (suc x) zero = simp (eqb·zero-suc, mul-zero, zero-add)
 pass-more (y ∷ t) zero (suc i) = simp (eqb·suc-zero, mul-zero, add-zero)
 pass-more (y ∷ t) (suc x) (suc i) = rw (eqb·suc-suc i x) (pass-more t x i)
 
--- no sum is above the entries passed
-pub pass-below : (b : ℕ) (t : List ℕ) (x i : ℕ) → 0 < b → getD (take i t) x 0 < b → getD t i 0 < b
+-- and no sum is above what is added
+pub pass-below : (b : ℕ) (t : List ℕ) (x i : ℕ) → 0 < b → getD (take i t) x 0 < b → getD t i 0 * bit (eqb i x) < b
     → getD (take (suc i) t) x 0 < b
 pass-below b [] x i p h k = p
-pass-below b (y ∷ t) zero zero p h k = k
+pass-below b (y ∷ t) zero zero p h k = rw mul-one at k
 pass-below b (y ∷ t) (suc x) zero p h k = p
 pass-below b (y ∷ t) zero (suc i) p h k = h
-pass-below b (y ∷ t) (suc x) (suc i) p h k = pass-below b t x i p h k
+pass-below b (y ∷ t) (suc x) (suc i) p h k = pass-below b t x i p h (rw eqb·suc-suc at k)
 
--- what is kept of a byte is a byte
-pub kept-byte : (e : ℕ) (b : Bool) → e < 256 → e * boolByte b < 256
-kept-byte e true h = rw (mul-one e) h
-kept-byte e false h = rw (mul-zero e) (lit< tt)
+-- an entry or 0 by a choice is the entry times 1 or 0
+chosen-times : (e : ℕ) (b : Bool) → chosen (bit b) 0 e ≡ e * bit b
+chosen-times e true = rw chosen-bit (sym (mul-one e))
+chosen-times e false = rw chosen-bit (sym (mul-zero e))
 
 -- r is the entry at x of the first i of t, and a byte
 pub record Passed (t : List ℕ) (x i r : ℕ) : Type 0 where
@@ -46,16 +46,16 @@ pub record Passed (t : List ℕ) (x i r : ℕ) : Type 0 where
 pub pass-none : (t : List ℕ) (x : ℕ) → Passed t x 0 0
 pass-none t x = record { is = refl; byte = lit< tt }
 
--- a turn of the pass: what `keep` gave of entry i is added
-pub pass-turn : (t n : List ℕ) (x i r q : ℕ) → Counts n → i < 256 → Passed t x i r → Kept (getD t i 0) (getD n i 0) x q
-    → Passed t x (i + 1) (r + q)
-pass-turn t n x i r q places h p k =
-    let sum : r + q ≡ getD (take (i + 1) t) x 0 =
-    ap₂ (λ (a b : ℕ). a + b) (p .is)
-    (k .is ∙ ap (λ (m : ℕ). getD t i 0 * bit (eqb m x)) (places .place i h))
-    ∙ rw (add-one i) (pass-more t x i) in
+-- a turn of the pass: entry i, if it is the one at x, is added
+pub pass-turn : (t n : List ℕ) (x i r m q : ℕ) → Counts n → i < 256 → Passed t x i r → q < 256
+    → m ≡ bit (eqb (getD n i 0) x) → q ≡ chosen m 0 (getD t i 0) → Passed t x (i + 1) (r + q)
+pass-turn t n x i r m q places h p byte test e =
+    let here : m ≡ bit (eqb i x) = test ∙ ap (λ (k : ℕ). bit (eqb k x)) (places .place i h) in
+    let is : q ≡ getD t i 0 * bit (eqb i x) =
+    e ∙ ap (λ (k : ℕ). chosen k 0 (getD t i 0)) here ∙ chosen-times (getD t i 0) (eqb i x) in
+    let sum : r + q ≡ getD (take (i + 1) t) x 0 = ap₂ (λ (a b : ℕ). a + b) (p .is) is ∙ rw (add-one i) (pass-more t x i) in
     let below : getD (take (i + 1) t) x 0 < 256 =
-    rw (add-one i) (pass-below 256 t x i (lit< tt) (rw (p .is) at (p .byte)) (k .byte)) in
+    rw (add-one i) (pass-below 256 t x i (lit< tt) (rw (p .is) at (p .byte)) (rw is at byte)) in
     record { is = sum; byte = omega (arith, sum, below) }
 
 -- behind the last turn

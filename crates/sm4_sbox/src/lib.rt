@@ -2,7 +2,7 @@
 // The byte looked up is secret: no branch and no index depends on it, and every lookup passes over all 256 entries.
 ghost use mathlib.Core.Path.{_≡_};
 ghost use lib.ListN.{getD};
-ghost use Rattle.sm4_sbox.specs.Pass.{Kept, Counts};
+ghost use Rattle.sm4_sbox.specs.Pass.{Counts};
 ghost use Rattle.sm4_sbox.specs.Standard.{Sbox};
 
 pub const S_BOX: [u8; 256] = [
@@ -524,13 +524,6 @@ pub const COUNT: [u8; 256] = [
     255,
 ];
 
-// e where k is x, else 0: a comparison taken as a number, and no branch.
-fn keep(e: u8, k: u8, x: u8) -> u8
-    ensures { λ r. ⌜ Kept e k x r ⌝ }
-{
-    e * ((k == x) as u8)
-}
-
 // The entry of t at x: the sum over all entries, of which one counts. The places are read off n, so that only bytes are
 // compared, many at a time.
 fn select(t: &[u8; 256], n: &[u8; 256], x: u8) -> u8
@@ -539,7 +532,7 @@ fn select(t: &[u8; 256], n: &[u8; 256], x: u8) -> u8
 {
     let mut r: u8 = 0;
     for i in 0..256 {
-        r = r + keep(t[i], n[i], x);
+        r = r + masks::select_u8(0, t[i], masks::ct_eq_u8(n[i], x));
     }
     r
 }

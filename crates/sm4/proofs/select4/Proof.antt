@@ -18,40 +18,48 @@ loop-holds : tie.Need-loop-holds Inv-loop μ-loop
 loop-holds c = (omega arith, pass-none _ _, pass-none _ _, pass-none _ _, pass-none _ _)
 
 -- entry i of the table, counted for a
-module _ (p : tie.After-keep Inv-loop μ-loop) where
+module _ (p : tie.After-select-u8 Inv-loop μ-loop) where
   abbrev s : tie.At-loop Inv-loop μ-loop
-  s = p .before .before .before .before
+  s = p .before .before .before .before .before
 
-  for-a : Passed (s .before .args .t .now) (s .before .args .a) (s .loop .i + 1) (s .loop .ra + p .keep .result)
-  for-a = pass-turn _ _ _ _ _ _ (s .before .pre) (omega arith) (s .loop .inv .1) (p .keep .ensures)
+  for-a : Passed (s .before .args .t .now) (s .before .args .a) (s .loop .i + 1) (s .loop .ra + p .select-u8 .result)
+  for-a =
+      pass-turn _ _ _ _ _ _ _ (s .before .pre) (omega arith) (s .loop .inv .1) (omega arith)
+      (p .before .ct-eq-u8 .ensures) (p .select-u8 .ensures)
 
 -- and for b
-module _ (p : tie.After-keep2 Inv-loop μ-loop) where
+module _ (p : tie.After-select-u82 Inv-loop μ-loop) where
   abbrev s2 : tie.At-loop Inv-loop μ-loop
-  s2 = p .before .before .before .before .before
+  s2 = p .before .before .before .before .before .before .before
 
-  for-b : Passed (s2 .before .args .t .now) (s2 .before .args .b) (s2 .loop .i + 1) (s2 .loop .rb + p .keep2 .result)
-  for-b = pass-turn _ _ _ _ _ _ (s2 .before .pre) (omega arith) (s2 .loop .inv .2) (p .keep2 .ensures)
+  for-b : Passed (s2 .before .args .t .now) (s2 .before .args .b) (s2 .loop .i + 1) (s2 .loop .rb + p .select-u82 .result)
+  for-b =
+      pass-turn _ _ _ _ _ _ _ (s2 .before .pre) (omega arith) (s2 .loop .inv .2) (omega arith)
+      (p .before .ct-eq-u82 .ensures) (p .select-u82 .ensures)
 
 -- and for c
-module _ (p : tie.After-keep3 Inv-loop μ-loop) where
+module _ (p : tie.After-select-u83 Inv-loop μ-loop) where
   abbrev s3 : tie.At-loop Inv-loop μ-loop
-  s3 = p .before .before .before .before .before .before
+  s3 = p .before .before .before .before .before .before .before .before .before
 
-  for-c : Passed (s3 .before .args .t .now) (s3 .before .args .c) (s3 .loop .i + 1) (s3 .loop .rc + p .keep3 .result)
-  for-c = pass-turn _ _ _ _ _ _ (s3 .before .pre) (omega arith) (s3 .loop .inv .3) (p .keep3 .ensures)
+  for-c : Passed (s3 .before .args .t .now) (s3 .before .args .c) (s3 .loop .i + 1) (s3 .loop .rc + p .select-u83 .result)
+  for-c =
+      pass-turn _ _ _ _ _ _ _ (s3 .before .pre) (omega arith) (s3 .loop .inv .3) (omega arith)
+      (p .before .ct-eq-u83 .ensures) (p .select-u83 .ensures)
 
 -- and for d
-module _ (p : tie.After-keep4 Inv-loop μ-loop) where
+module _ (p : tie.After-select-u84 Inv-loop μ-loop) where
   abbrev s4 : tie.At-loop Inv-loop μ-loop
-  s4 = p .before .before .before .before .before .before .before
+  s4 = p .before .before .before .before .before .before .before .before .before .before .before
 
-  for-d : Passed (s4 .before .args .t .now) (s4 .before .args .d) (s4 .loop .i + 1) (s4 .loop .rd + p .keep4 .result)
-  for-d = pass-turn _ _ _ _ _ _ (s4 .before .pre) (omega arith) (s4 .loop .inv .4) (p .keep4 .ensures)
+  for-d : Passed (s4 .before .args .t .now) (s4 .before .args .d) (s4 .loop .i + 1) (s4 .loop .rd + p .select-u84 .result)
+  for-d =
+      pass-turn _ _ _ _ _ _ _ (s4 .before .pre) (omega arith) (s4 .loop .inv .4) (omega arith)
+      (p .before .ct-eq-u84 .ensures) (p .select-u84 .ensures)
 
 loop-again : tie.Need-loop-again Inv-loop μ-loop
 loop-again p =
-    (omega arith, for-a (p .before .before .before), for-b (p .before .before), for-c (p .before), for-d p)
+    (omega arith, for-a (p .before .before .before .before .before .before), for-b (p .before .before .before .before), for-c (p .before .before), for-d p)
 
 returns : tie.Need-returns Inv-loop μ-loop
 returns p =
@@ -73,11 +81,15 @@ select4-spec =
     (λ c. omega arith)
     (λ c. omega arith)
     (λ c κs. search needs)
+    (λ c κs. search needs)
     (λ c. omega (arith, for-a c .byte))
+    (λ c κs. search needs)
     (λ c κs. search needs)
     (λ c. omega (arith, for-b c .byte))
     (λ c κs. search needs)
+    (λ c κs. search needs)
     (λ c. omega (arith, for-c c .byte))
+    (λ c κs. search needs)
     (λ c κs. search needs)
     (λ c. omega (arith, for-d c .byte))
     (λ c. omega arith)

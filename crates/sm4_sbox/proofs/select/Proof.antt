@@ -16,12 +16,15 @@ abbrev μ-loop : tie.MeasureT-loop
 loop-holds : tie.Need-loop-holds Inv-loop μ-loop
 loop-holds c = (omega arith, pass-none _ _)
 
-module _ (c : tie.After-keep Inv-loop μ-loop) where
+module _ (c : tie.After-select-u8 Inv-loop μ-loop) where
   abbrev s : tie.At-loop Inv-loop μ-loop
-  s = c .before .before .before .before
+  s = c .before .before .before .before .before
 
-  turn : Passed (s .before .args .t .now) (s .before .args .x) (s .loop .i + 1) (s .loop .r + c .keep .result)
-  turn = pass-turn _ _ _ _ _ _ (s .before .pre) (omega arith) (s .loop .inv .1) (c .keep .ensures)
+  -- one entry more
+  turn : Passed (s .before .args .t .now) (s .before .args .x) (s .loop .i + 1) (s .loop .r + c .select-u8 .result)
+  turn =
+      pass-turn _ _ _ _ _ _ _ (s .before .pre) (omega arith) (s .loop .inv .1) (omega arith)
+      (c .before .ct-eq-u8 .ensures) (c .select-u8 .ensures)
 
 loop-again : tie.Need-loop-again Inv-loop μ-loop
 loop-again c = (omega arith, turn c)
@@ -38,6 +41,7 @@ select-spec =
     loop-holds
     (λ c. omega arith)
     (λ c. omega arith)
+    (λ c κs. search needs)
     (λ c κs. search needs)
     (λ c. omega (arith, turn c .byte))
     (λ c. omega arith)
