@@ -11,6 +11,7 @@ use lib.ListN.{length, getD, drop, drop-of-length-le}
 use lib.Seq.{drop-cons}
 use Rattle.words.specs.Choice.{bit}
 use Rattle.words.specs.Lists.{agree}
+use Rattle.words.proofs.Tests.{right-fails}
 use Rattle.protocol.specs.Fields.{upTo, times}
 
 module _ (b : ℕ) (l : List ℕ) (i : ℕ) where
@@ -34,6 +35,7 @@ module _ (b : ℕ) (l : List ℕ) (i : ℕ) where
   unfolding times
   times-here h = rw (add-one i, drop-cons l i 0 h)
 
+  -- none past the end
   pub times-none : length l ≤ i → times b (drop i l) ≡ 0
   unfolding times
   times-none h = rw (drop-of-length-le l {i = i} h)
@@ -48,14 +50,11 @@ upTo-fits b (x ∷ l) = by (eqb x b) (upTo-fits b l)
     by true h = omega arith
     by false h = omega arith
 
+-- nor is the index of a byte
 pub until-fits : (b n : ℕ) (l : List ℕ) → n ≡ length (upTo b l) → n ≤ length l
 until-fits b n l e = omega (arith, upTo-fits b l)
 
 -- ---- two lists
-
-never : (t : Bool) → (t && false) ≡ false
-never true = refl
-never false = refl
 
 -- of another length
 pub other-length : (a b : List ℕ) → (length a ≡ length b → ⊥) → agree a b ≡ false
@@ -63,7 +62,7 @@ unfolding agree
 other-length [] [] e = absurd (e refl)
 other-length [] (y ∷ b) e = refl
 other-length (x ∷ a) [] e = refl
-other-length (x ∷ a) (y ∷ b) e = rw (other-length a b (λ h. e (ap suc h))) (never (eqb x y))
+other-length (x ∷ a) (y ∷ b) e = right-fails (eqb x y) (agree a b) (other-length a b (λ h. e (ap suc h)))
 
 module _ (a b : List ℕ) (i : ℕ) where
   -- the same element: it is for the rest to say

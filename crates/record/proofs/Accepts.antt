@@ -102,12 +102,15 @@ module _ (tag : List ℕ → List ℕ) (d : List ℕ) where
 
 module _ (tag : List ℕ → List ℕ) (size : (t : List ℕ) → length (tag t) ≡ 32) where
   module _ (text : List ℕ) (p : ℕ) where
+    -- text and MAC
     abbrev front : List ℕ
     front = text ++ tag text
 
+    -- the MAC is 32 bytes
     length-front : length front ≡ length text + 32
     length-front = length-append text (tag text) ∙ omega (arith, size text)
 
+    -- the padding stands behind them
     split : bodyOf tag text p ≡ front ++ padding p
     unfolding bodyOf
     split = sym (append-assoc text (tag text) (padding p))
@@ -148,10 +151,6 @@ module _ (tag : List ℕ → List ℕ) (size : (t : List ℕ) → length (tag t)
     pub accepts-body : accepts tag (bodyOf tag text p) ≡ true
     unfolding accepts
     accepts-body = rw (good-body, text-body, mac-body) (agree-refl (tag text))
-
-  -- what is a body is accepted
-  pub body-is-accepted : (d : List ℕ) → (text : List ℕ) × (p : ℕ) × (p ≤ 255) × (d ≡ bodyOf tag text p) → accepts tag d ≡ true
-  body-is-accepted d (text, p, b, e) = rw e (accepts-body text p)
 
   -- one text and one padding length to a body
   pub body-unique : (text text′ : List ℕ) (p p′ : ℕ) → bodyOf tag text p ≡ bodyOf tag text′ p′ → (text ≡ text′) × (p ≡ p′)
