@@ -3,12 +3,11 @@ use mathlib.Core.List.{List, _++_}
 use mathlib.Core.Path.{_≡_, sym, ap, ap₂, _∙_}
 use Prim.Native.Nat.{ℕ, zero, suc, _*_, _/_, _%_, _≤_, _<_}
 use native.Mathlib.Omega.{arith}
-use lib.Dec.{lit<}
 use lib.ListN.{length, drop, length-append}
 use lib.Seq.{take-all}
 use Rattle.words.specs.Bytes.{Bytes}
 use Rattle.words.specs.Lists.{block, join, xorEach}
-use Rattle.words.proofs.Bytes.{bytes-append, bytes-take, bytes-drop, bytes-xorEach}
+use Rattle.words.proofs.Bytes.{bytes-append, bytes-take, bytes-drop, bytes-join, bytes-xorEach}
 use Rattle.words.proofs.Lists.{length-block, block-front, block-behind, join-ext, join-blocks, length-join, block-join, length-xorEach, xorEach-twice}
 use Rattle.sm4.specs.Block.{Block}
 use Rattle.cbc.specs.Cbc.{Cipher, chain, cipherBlock, cbcEnc, plain, cbcDec}
@@ -27,13 +26,6 @@ block-xor a b ha hb =
       size = length-xorEach a b (ha .size ∙ sym (hb .size)) ∙ hb .size;
       bytes = bytes-xorEach a b (ha .bytes) (hb .bytes);
     }
-
--- pieces of bytes end to end
-bytes-join : (m : ℕ) (f : ℕ → List ℕ) → ((k : ℕ) → k < m → Bytes (f k)) → Bytes (join m f)
-unfolding join
-bytes-join zero f h = λ i. lit< tt
-bytes-join (suc m) f h =
-    bytes-append (join m f) (f m) (bytes-join m f (λ k b. h k (omega arith))) (h m (omega arith))
 
 -- all blocks of a list of whole blocks
 join-all : (x : List ℕ) → length x % 16 ≡ 0 → join (length x / 16) (λ k. block 16 k x) ≡ x

@@ -12,6 +12,7 @@ use Rattle.answers.specs.Answers.{Done, BadRecord}
 use Rattle.words.specs.Bytes.{Bytes}
 use Rattle.words.specs.Lists.{put}
 use Rattle.words.proofs.Bytes.{bytes-take, bytes-drop}
+use Rattle.words.proofs.Puts.{part-put}
 use Rattle.sm4.specs.Block.{Block}
 use Rattle.sm4.specs.Standard.{encrypt, decrypt, roundKeys}
 use Rattle.cbc.specs.Cbc.{cbcEnc}
@@ -24,7 +25,6 @@ use Rattle.record.specs.Sealing.{reportOf, outputOf as sealedOutput}
 use Rattle.record.specs.Standard.{bodyOf, padOf, sealedBy, sealedRecord, sealedLength}
 use Rattle.record.proofs.Accepts.{accepted-is-body, accepts-body, held-body, text-body, body-unique}
 use Rattle.record.proofs.Answers.{answer-done}
-use Rattle.record.proofs.Puts.{part-put}
 use Rattle.record.proofs.Records.{length-tag, length-sealedRecord, opened-sealedRecord}
 use Rattle.sizes.specs.Sizes.{sizeAnswer, totalSteps}
 use Rattle.steps.specs.State.{startAnswer}

@@ -1,23 +1,17 @@
 -- The key's block: 64 bytes, zeros behind the key. Assumes nothing.
 use mathlib.Core.Bool.{Bool, true, false, cond}
-use mathlib.Core.List.{List, _++_}
+use mathlib.Core.List.{List}
 use mathlib.Core.Path.{_≡_, refl, _∙_}
 use Prim.Native.Nat.{ℕ, _-_, _≤_}
-use native.Mathlib.Nat.{zero-add}
 use native.Mathlib.Omega.{arith}
 use borrow.Author.Tests.{ltb-false}
 use lib.Dec.{ltb}
 use lib.ListN.{length, replicate, length-append, length-replicate}
-use Rattle.words.proofs.Lists.{put-fits, drop-replicate, length-xorEach}
-use Rattle.words.specs.Lists.{put, xorEach}
+use Rattle.words.proofs.Lists.{length-xorEach}
+use Rattle.words.specs.Lists.{xorEach}
 use Rattle.hmac.specs.Rfc2104.{extended, K′}
 
--- laid over n zeros
-pub put-extended : (x : List ℕ) (n : ℕ) → length x ≤ n → put 0 x (replicate n 0) ≡ x ++ replicate (n - length x) 0
-put-extended x n h =
-    put-fits 0 x (replicate n 0) (omega (arith, length-replicate {A = ℕ} n 0))
-    ∙ rw (zero-add (length x), drop-replicate (length x) n 0)
-
+-- zeros up to a block
 length-extended : (x : List ℕ) → length x ≤ 64 → length (extended x) ≡ 64
 unfolding extended
 length-extended x h = length-append x (replicate (64 - length x) 0) ∙ omega (arith, length-replicate {A = ℕ} (64 - length x) 0)

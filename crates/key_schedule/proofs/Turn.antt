@@ -6,7 +6,7 @@ use native.Mathlib.Nat.{lt-suc-self}
 use native.Mathlib.Omega.{arith}
 use lib.ListN.{length, take, drop, length-drop, drop-of-length-le}
 use lib.Seq.{take-at}
-use Rattle.words.proofs.Lists.{length-put, put-fits, part-to-end}
+use Rattle.words.proofs.Lists.{length-put, put-cut, put-fits, part-to-end}
 use Rattle.words.specs.Lists.{put}
 use Rattle.sm3.specs.Standard.{SM3}
 use Rattle.hmac.specs.Rfc2104.{HMAC}
@@ -15,13 +15,6 @@ use Rattle.key_schedule.specs.Standard.{blocks}
 use Rattle.key_schedule.proofs.Depth.{blocks-more}
 use Rattle.key_schedule.proofs.Expansion.{rest-last, rest-more}
 use Rattle.key_schedule.proofs.Lengths.{length-HMAC}
-
--- a block laid over an output that is no longer is cut
-put-cut : (b out : List ℕ) → length out ≤ length b → put 0 b out ≡ take (length out) b
-unfolding put
-put-cut b out h =
-    let n : length out - 0 ≡ length out = omega arith in
-    rw (drop-of-length-le out {i = 0 + length b} (omega arith), append-nil (take (length out - 0) b), n)
 
 -- the part from n to the end is what is behind the first n
 length-part : (n : ℕ) (l : List ℕ) → length (take (length l - n) (drop n l)) ≡ length l - n

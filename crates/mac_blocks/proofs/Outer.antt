@@ -6,9 +6,9 @@ use native.Mathlib.Omega.{arith}
 use lib.ListN.{length, set, take, replicate, length-append}
 use lib.Seq.{set-at, take-append-add}
 use Rattle.words.specs.Lists.{put}
+use Rattle.words.proofs.Puts.{put-extended}
 use Rattle.sm3.specs.Standard.{zeros, count, ending}
 use Rattle.sm3.proofs.Ending.{put-counted}
-use Rattle.hmac.proofs.KeyBlock.{put-extended}
 
 -- the digest, 0x80 and the count laid over zeros
 pub digest-ended : (x : List ℕ) → length x ≡ 32

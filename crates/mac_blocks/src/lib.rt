@@ -55,22 +55,13 @@ fn held_of(plaintext_len: usize, lent: usize) -> usize
     masks::select_usize(plaintext_len, lent, masks::ct_lt_usize(lent, plaintext_len))
 }
 
-// 1 where d is 0, else 0: the sum of its halves taken off 2^33. Of a comparison that chooses between eight words (`keep`), the
-// compiler makes a branch for x86-64.
-fn is_zero(d: usize) -> u8
-    ensures { λ r. ⌜ r ≡ bit (eqb d 0) ⌝ }
-{
-    let halves = (d >> 32) + (d % 0x1_0000_0000);
-    ((0x2_0000_0000 - halves) >> 33) as u8
-}
-
 // 1 where block b is the final one, which has room for the count behind the text and 0x80; else 0. The block's number is
-// made by a shift, since held is secret.
+// made by a shift, since held is secret, and no comparison tells it, since `keep` chooses eight words by it.
 fn is_final(held: usize, b: usize) -> u8
     requires { ⌜ held < 2 ^ 63 ⌝ }
     ensures { λ r. ⌜ r ≡ bit (eqb b ((13 + held + 8) / 64)) ⌝ }
 {
-    is_zero(b ^ ((HEADER_LEN + held + 8) >> 6))
+    masks::ct_is_zero_usize(b ^ ((HEADER_LEN + held + 8) >> 6))
 }
 
 // The number of bits of total bytes, modulo 2^64, in 8 bytes.

@@ -24,6 +24,15 @@ pub fn ct_lt_usize(a: usize, b: usize) -> u8
     (a < b) as u8
 }
 
+// 1 where d is 0, else 0: the sum of its halves taken off 2^33. A shift and no comparison: of a comparison that chooses between eight
+// words in a row, the compiler makes a branch for x86-64.
+pub fn ct_is_zero_usize(d: usize) -> u8
+    ensures { λ r. ⌜ r ≡ bit (eqb d 0) ⌝ }
+{
+    let halves = (d >> 32) + (d % 0x1_0000_0000);
+    ((0x2_0000_0000 - halves) >> 33) as u8
+}
+
 // a where the lowest bit of choice is 0, b where it is 1: all ones or all zeros as a mask, and no branch.
 pub fn select_u8(a: u8, b: u8, choice: u8) -> u8
     ensures { λ r. ⌜ r ≡ chosen choice a b ⌝ }

@@ -8,9 +8,9 @@ use Rattle.words.specs.Bytes.{be}
 use Rattle.words.specs.Lists.{put}
 use Rattle.words.proofs.Bytes.{length-be}
 use Rattle.words.proofs.Lists.{put-whole, length-put}
+use Rattle.words.proofs.Puts.{put-one, put-put}
 use Rattle.record.specs.Limits.{HEADER-LEN}
 use Rattle.record.specs.Standard.{header}
-use Rattle.record.proofs.Puts.{put-one, put-put}
 
 -- thirteen bytes
 pub length-header : (seq type : ℕ) (version : List ℕ) (len : ℕ) → length version ≡ 2 → length (header seq type version len) ≡ HEADER-LEN

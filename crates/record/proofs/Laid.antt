@@ -8,10 +8,10 @@ use native.Mathlib.Omega.{arith}
 use lib.ListN.{length, take, drop, replicate, length-append, length-replicate}
 use Rattle.words.specs.Lists.{put}
 use Rattle.words.proofs.Lists.{length-put}
+use Rattle.words.proofs.Puts.{put-put, put-back, put-part, part-put, put-again}
 use Rattle.cbc.specs.Cbc.{cbcEnc, enciphered}
 use Rattle.cbc.proofs.Turn.{enciphered-whole}
 use Rattle.record.specs.Standard.{padding}
-use Rattle.record.proofs.Puts.{put-put, put-back, put-part, part-put, put-over}
 use Rattle.record.proofs.Records.{length-enciphered}
 
 -- text, MAC and padding, each behind the one before
@@ -51,5 +51,5 @@ module _ (E : List ℕ → List ℕ) (sizes : (b : List ℕ) → length (E b) �
       let qc : q ≡ c = qe ∙ ap (enciphered E iv) part ∙ enciphered-whole E iv body w in
       put-back 16 (total - 16) q o2 (ap length qc ∙ omega arith) (omega arith)
       ∙ ap₂ (put 16) qc oe2
-      ∙ put-over 16 body c first (omega arith) (omega arith)
+      ∙ put-again 16 body c first (omega arith) (omega arith)
       ∙ put-put 0 16 iv c out (omega arith) (omega arith)

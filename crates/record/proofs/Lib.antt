@@ -4,5 +4,4 @@ pub mod Header
 pub mod Laid
 pub mod Mac
 pub mod OneOutcome
-pub mod Puts
 pub mod Records

@@ -1,13 +1,13 @@
 -- The sealed record: how long it is, and that deciphering gives back the body that was enciphered. Assumes nothing.
 use mathlib.Core.List.{List, _++_}
 use mathlib.Core.Path.{_≡_, ap, _∙_}
-use Prim.Native.Nat.{ℕ, zero, suc, _+_, _*_, _/_, _%_}
+use Prim.Native.Nat.{ℕ, suc, _+_, _*_, _/_, _%_}
 use native.Mathlib.Omega.{arith}
 use lib.ListN.{length, getD, drop, length-append}
 use lib.Seq.{drop-at}
 use Rattle.words.specs.Bytes.{Bytes}
-use Rattle.words.specs.Lists.{block, join, xorEach}
-use Rattle.words.proofs.Bytes.{bytes-nil, bytes-append, bytes-be, bytes-replicate}
+use Rattle.words.specs.Lists.{block, xorEach}
+use Rattle.words.proofs.Bytes.{bytes-append, bytes-be, bytes-join, bytes-replicate}
 use Rattle.words.proofs.Lists.{length-join}
 use Rattle.sm3.specs.Standard.{IV, padded, iteration, SM3, bytesOf, wordBytes}
 use Rattle.sm3.proofs.Standard.{length-SM3}
@@ -30,18 +30,12 @@ pub length-tag : (key : List ℕ) (seq type : ℕ) (version text : List ℕ) →
 unfolding tagOf HMAC
 length-tag key seq type version text = length-SM3 _
 
--- pieces of bytes end to end
-bytes-join : (m : ℕ) (f : ℕ → List ℕ) → ((k : ℕ) → Bytes (f k)) → Bytes (join m f)
-unfolding join
-bytes-join zero f h = bytes-nil
-bytes-join (suc m) f h = bytes-append (join m f) (f m) (bytes-join m f h) (h m)
-
 -- a digest is bytes
 bytes-SM3 : (m : List ℕ) → Bytes (SM3 m)
 unfolding SM3 bytesOf wordBytes
 bytes-SM3 m =
     let v = iteration IV (padded m) in
-    bytes-join 8 (wordBytes v) (λ k. bytes-be 4 (getD v k 0))
+    bytes-join 8 (wordBytes v) (λ k _. bytes-be 4 (getD v k 0))
 
 -- and so is the MAC
 pub bytes-tag : (key : List ℕ) (seq type : ℕ) (version text : List ℕ) → Bytes (tagOf key seq type version text)

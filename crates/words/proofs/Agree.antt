@@ -1,7 +1,7 @@
 -- Two lists that agree are equal, and the OR of their differences tells whether they agree. Assumes nothing.
 use mathlib.Core.Bool.{Bool, true, false, _&&_}
 use mathlib.Core.List.{List, [], _∷_, _++_}
-use mathlib.Core.Path.{_≡_, refl, sym, ap, ap₂, _∙_}
+use mathlib.Core.Path.{_≡_, refl, sym, ap₂, _∙_}
 use Prim.Native.Nat.{ℕ, _+_, _<_}
 use native.Mathlib.Nat.{suc-inj, suc-ne-zero}
 use native.Mathlib.Numerals.{add-one}
@@ -13,7 +13,7 @@ use lib.ListN.{length, getD, take}
 use lib.Seq.{take-suc, length-take-le}
 use Rattle.words.specs.Lists.{agree}
 use Rattle.words.specs.Word.{_⊕_}
-use Rattle.words.proofs.Xor.{⊕-self, ⊕-eq, or-zero}
+use Rattle.words.proofs.Xor.{or-zero, xor-test}
 
 -- a list agrees with itself
 pub agree-refl : (a : List ℕ) → agree a a ≡ true
@@ -49,14 +49,6 @@ agree-snoc (u ∷ a) (v ∷ b) x y e = by (eqb u v) (agree-snoc a b x y (suc-inj
         → (t && agree (a ++ (x ∷ [])) (b ++ (y ∷ []))) ≡ ((t && agree a b) && eqb x y)
     by true h = h
     by false h = refl
-
--- whether a difference is none
-xor-test : (x y : ℕ) → eqb (x ⊕ y) 0 ≡ eqb x y
-xor-test x y = by (eqb x y) refl
-  where
-    by : (t : Bool) → eqb x y ≡ t → eqb (x ⊕ y) 0 ≡ t
-    by true e = eq-eqb (x ⊕ y) 0 (ap (λ (z : ℕ). x ⊕ z) (sym (eqb-true x y e)) ∙ ⊕-self x)
-    by false e = ne-eqb (x ⊕ y) 0 (λ z. eqb-false x y e (⊕-eq x y z))
 
 -- whether both of two numbers are none
 or-test : (d e : ℕ) → eqb (bitOr d e) 0 ≡ (eqb d 0 && eqb e 0)

@@ -10,7 +10,7 @@ use lib.ListN.{length, take, drop, replicate, length-append}
 use lib.Pow.{pow-add}
 use lib.Seq.{getD-drop}
 use Rattle.words.specs.Bytes.{be, number, Bytes}
-use Rattle.words.specs.Lists.{xorEach}
+use Rattle.words.specs.Lists.{join, xorEach}
 use Rattle.words.proofs.Xor.{⊕-lt}
 
 -- 0 is a byte
@@ -54,6 +54,13 @@ pub bytes-replicate : (n x : ℕ) → x < 256 → Bytes (replicate n x)
 bytes-replicate zero x h i = zero-byte
 bytes-replicate (suc n) x h zero = h
 bytes-replicate (suc n) x h (suc i) = bytes-replicate n x h i
+
+-- pieces of bytes end to end
+pub bytes-join : (m : ℕ) (f : ℕ → List ℕ) → ((k : ℕ) → k < m → Bytes (f k)) → Bytes (join m f)
+unfolding join
+bytes-join zero f h = bytes-nil
+bytes-join (suc m) f h =
+    bytes-append (join m f) (f m) (bytes-join m f (λ k b. h k (omega arith))) (h m (omega arith))
 
 -- the exclusive or of bytes
 pub bytes-xorEach : (a b : List ℕ) → Bytes a → Bytes b → Bytes (xorEach a b)

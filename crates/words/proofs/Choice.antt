@@ -19,6 +19,11 @@ pub bool-bit : (t : Bool) → boolByte t ≡ bit t
 bool-bit true = refl
 bool-bit false = refl
 
+-- the number 1 stands for yes
+pub bit-one : (t : Bool) → eqb (bit t) 1 ≡ t
+bit-one true = refl
+bit-one false = refl
+
 -- both of two tests
 pub both-bits : (s t : Bool) → bitAnd (bit s) (bit t) ≡ bit (s && t)
 both-bits true true = refl

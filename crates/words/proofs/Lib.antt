@@ -5,6 +5,7 @@ pub mod Copy
 pub mod Lists
 pub mod OneOutcome
 pub mod Over
+pub mod Puts
 pub mod Tests
 pub mod Word
 pub mod Xor

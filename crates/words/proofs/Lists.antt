@@ -5,7 +5,7 @@ use mathlib.Core.Bool.{Bool, true, false, cond}
 use mathlib.Core.List.{List, [], _∷_, _++_, append-assoc, append-nil}
 use mathlib.Core.Logic.{_⊎_, inl, inr}
 use Prim.Native.Nat.{ℕ, zero, suc, _+_, _-_, _*_, _≤_, _<_}
-use native.Mathlib.Nat.{suc-inj, suc-ne-zero, suc-mul, suc-add, zero-mul, zero-add}
+use native.Mathlib.Nat.{suc-inj, suc-ne-zero, suc-mul, suc-add, add-zero, zero-mul, zero-add}
 use native.Mathlib.Nat.{not-suc-le-zero, le-of-suc-le-suc, le-of-eq, eq-or-lt-of-le, mul-le-mul-right}
 use native.Mathlib.Omega.{arith}
 use native.Mathlib.Numerals.{add-one}
@@ -140,6 +140,20 @@ block-behind w k a l e =
 pub getD-block : (w k : ℕ) (l : List ℕ) (i d : ℕ) → i < w → getD (block w k l) i d ≡ getD l (k * w + i) d
 getD-block w k l i d h = getD-take w (drop (k * w) l) i d h ∙ getD-drop (k * w) l i d
 
+-- a block of four elements, one by one
+pub block-four : (l : List ℕ) (i : ℕ) → suc i * 4 ≤ length l
+    → block 4 i l ≡ getD l (i * 4) 0 ∷ getD l (i * 4 + 1) 0 ∷ getD l (i * 4 + 2) 0 ∷ getD l (i * 4 + 3) 0 ∷ []
+unfolding table
+block-four l i h =
+    as-table (block 4 i l) 4 (length-block 4 i l h)
+    ∙ rw (
+      getD-block 4 i l 0 0 (omega arith),
+      add-zero (i * 4),
+      getD-block 4 i l 1 0 (omega arith),
+      getD-block 4 i l 2 0 (omega arith),
+      getD-block 4 i l 3 0 (omega arith),
+    )
+
 -- ---- one list laid over another
 
 -- the length stays
@@ -147,12 +161,16 @@ pub length-put : (at : ℕ) (src out : List ℕ) → length (put at src out) ≡
 unfolding put
 length-put at src out = simp (length-append, length-take, length-drop) (omega arith)
 
+-- a list that is no shorter is cut
+pub put-cut : (src out : List ℕ) → length out ≤ length src → put 0 src out ≡ take (length out) src
+unfolding put
+put-cut src out h =
+    let n : length out - 0 ≡ length out = omega arith in
+    rw (drop-of-length-le out {i = 0 + length src} (omega arith), append-nil (take (length out - 0) src), n)
+
 -- a list of the same length takes the other's place
 pub put-whole : (src out : List ℕ) → length src ≡ length out → put 0 src out ≡ src
-unfolding put
-put-whole src out e =
-    rw (take-all (length out - 0) src (omega arith), drop-of-length-le out {i = 0 + length src} (omega arith))
-    (append-nil src)
+put-whole src out e = put-cut src out (omega arith) ∙ take-whole src (length out) e
 
 -- where there is room, all of the list is laid
 pub put-fits : (at : ℕ) (src out : List ℕ) → at + length src ≤ length out

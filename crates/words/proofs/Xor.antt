@@ -1,11 +1,14 @@
 -- Laws of exclusive or on numbers of any width. Assumes nothing.
+use mathlib.Core.Bool.{Bool, true, false}
 use mathlib.Core.Path.{_≡_, refl, sym, ap, ap₂, _∙_}
 use Prim.Native.Nat.{ℕ, zero, suc, _+_, _*_, _/_, _%_, _^_, _<_}
 use native.Mathlib.Nat.{mod-lt, zero-lt-suc}
 use native.Mathlib.Omega.{arith}
+use borrow.Author.Tests.{eqb-true, eqb-false, eq-eqb, ne-eqb}
 use lib.Arith.{bin-ind, digits-mod}
 use lib.Bits.{bitAnd, bitOr, bitXor, or-add-and, and-le-l, and-le-r}
 use lib.Bits.{differ, xor-step, xor-shr, xor-self, xor-comm, xor-zero-r, xor-lt}
+use lib.Dec.{eqb}
 use Rattle.words.specs.Word.{_⊕_}
 
 -- the lowest binary digit is 0 or 1
@@ -87,6 +90,14 @@ xor-twice a b = rw (⊕-comm a b, ⊕-comm a (b ⊕ a)) (⊕-cancel b a)
 -- only equal numbers have the exclusive or 0
 pub ⊕-eq : (a b : ℕ) → a ⊕ b ≡ 0 → a ≡ b
 ⊕-eq a b e = sym (⊕-cancel a b) ∙ ap (λ (x : ℕ). x ⊕ b) e ∙ zero-⊕ b
+
+-- whether a difference is none
+pub xor-test : (x y : ℕ) → eqb (x ⊕ y) 0 ≡ eqb x y
+xor-test x y = by (eqb x y) refl
+  where
+    by : (t : Bool) → eqb x y ≡ t → eqb (x ⊕ y) 0 ≡ t
+    by true e = eq-eqb (x ⊕ y) 0 (ap (λ (z : ℕ). x ⊕ z) (sym (eqb-true x y e)) ∙ ⊕-self x)
+    by false e = ne-eqb (x ⊕ y) 0 (λ z. eqb-false x y e (⊕-eq x y z))
 
 -- an inclusive or is 0 only where both are
 pub or-zero : (a b : ℕ) → bitOr a b ≡ 0 → (a ≡ 0) × (b ≡ 0)

@@ -6,11 +6,11 @@ use native.Mathlib.Omega.{arith}
 use borrow.Author.Needs.{needs}
 use borrow.Author.Tests.{lt-ltb, le-ltb}
 use lib.ListN.{length, replicate}
+use Rattle.words.proofs.Puts.{put-extended}
 use Rattle.sm3.specs.declared.Digest.{Digest}
 use Rattle.sm3.proofs.Standard.{length-hashed}
 use Rattle.hmac.specs.Rfc2104.{extended, K′}
 use Rattle.hmac.specs.State.{hashBytes}
-use Rattle.hmac.proofs.KeyBlock.{put-extended}
 use Rattle.hmac.proofs.k_prime.Statement.{statement}
 use Rattle.hmac.proofs.k_prime.Tie as tie
 

@@ -8,10 +8,10 @@ use borrow.Author.Needs.{needs}
 use lib.ListN.{length, replicate}
 use Rattle.words.proofs.Lists.{getD-xorEach-run, length-xorEach, length-put}
 use Rattle.words.proofs.Over.{Over, over-none, over-more, over-all}
+use Rattle.words.proofs.Puts.{put-extended}
 use Rattle.words.specs.Lists.{xorEach}
 use Rattle.words.specs.Word.{_⊕_}
 use Rattle.sm3.specs.Standard.{SM3}
-use Rattle.hmac.proofs.KeyBlock.{put-extended}
 use Rattle.hmac.proofs.Mac.{key-32}
 use Rattle.mac_blocks.proofs.key_block.Statement.{statement}
 use Rattle.mac_blocks.proofs.key_block.Tie as tie

@@ -4,8 +4,8 @@ use borrow.Author.Needs.{needs}
 use mathlib.Core.Path.{ap, sym, _∙_}
 use native.Mathlib.Omega.{arith}
 use Rattle.words.specs.Bytes.{number}
+use Rattle.words.proofs.Lists.{block-four}
 use Rattle.sm3_compress.specs.Standard.{word}
-use Rattle.sm3_compress.proofs.Laws.{block-four}
 use Rattle.sm3_compress.proofs.word_at.Statement.{statement}
 use Rattle.sm3_compress.proofs.word_at.Tie as tie
 

@@ -1,14 +1,20 @@
--- One list laid over another: one behind the other, and into a part that was lent. Assumes nothing.
+-- One list laid over another: over zeros, one behind the other, and into a part that was lent. Assumes nothing.
 use mathlib.Core.List.{List, [], _∷_, _++_, append-assoc}
 use mathlib.Core.Path.{_≡_, sym, ap, _∙_}
-use Prim.Native.Nat.{ℕ, _+_, _≤_, _<_}
+use Prim.Native.Nat.{ℕ, _+_, _-_, _≤_, _<_}
 use native.Mathlib.Nat.{zero-add}
 use native.Mathlib.Numerals.{add-one}
 use native.Mathlib.Omega.{arith}
-use lib.ListN.{length, set, take, drop, length-append, length-drop, take-append-drop}
+use lib.ListN.{length, set, take, drop, replicate, length-append, length-drop, length-replicate, take-append-drop}
 use lib.Seq.{take-at, take-append-seam, drop-at, drop-append-le, drop-append-add, drop-append-seam, drop-drop, length-take-le, set-split}
 use Rattle.words.specs.Lists.{put}
-use Rattle.words.proofs.Lists.{put-fits, length-put}
+use Rattle.words.proofs.Lists.{put-fits, length-put, drop-replicate}
+
+-- over n zeros
+pub put-extended : (x : List ℕ) (n : ℕ) → length x ≤ n → put 0 x (replicate n 0) ≡ x ++ replicate (n - length x) 0
+put-extended x n h =
+    put-fits 0 x (replicate n 0) (omega (arith, length-replicate {A = ℕ} n 0))
+    ∙ rw (zero-add (length x), drop-replicate (length x) n 0)
 
 -- one element
 pub put-one : (at x : ℕ) (o : List ℕ) → at < length o → set o at x ≡ put at (x ∷ []) o
@@ -65,8 +71,8 @@ part-put at x o h =
     rw (put-fits at x o h, drop-at (take at o) (x ++ behind) at n) (take-append-seam x behind)
 
 -- a list of the same length over it leaves nothing of it
-pub put-over : (at : ℕ) (x y o : List ℕ) → length x ≡ length y → at + length x ≤ length o → put at y (put at x o) ≡ put at y o
-put-over at x y o e h =
+pub put-again : (at : ℕ) (x y o : List ℕ) → length x ≡ length y → at + length x ≤ length o → put at y (put at x o) ≡ put at y o
+put-again at x y o e h =
     let behind = drop (at + length x) o in
     let n : length (take at o) ≡ at = length-take-le at o (omega arith) in
     let m : at + length y ≡ length (take at o) + length x = omega arith in
