@@ -1,27 +1,20 @@
 // Reads lines of the comparison with the Rust, does what each asks for and prints the answer. The file stdin is a list of such
 // lines and stdout what the Rust answered to them; ORIGIN says which Rust, and how both were recorded. A line that is malformed,
 // over 4,096 characters or of another command is answered `bad`.
-ghost use Prim.Native.Nat.{_<_};
 ghost use Rattle.io.specs.Counts.{Counts};
 use hmac::HmacSm3;
 use libc::STDOUT_FILENO;
+use programs::text;
 use protocol::BYTES;
 use protocol::NUMBER;
 use protocol::SIDE;
 use protocol::all_bytes;
 use protocol::count;
-use protocol::fits;
 use protocol::is_word;
 use record::RecordKeysCbc;
 use sm3::Sm3;
 
-fn text(s: &[u8]) {
-    io::write_all(STDOUT_FILENO, s);
-}
-
-fn wide(x: u8) -> u64
-    ensures { λ r. ⌜ r < 256 ⌝ }
-{
+fn wide(x: u8) -> u64 {
     x as u64
 }
 
@@ -105,9 +98,7 @@ fn report(answer: u8, length: usize, out: &[u8]) {
     if answer != answers::DONE {
         refused(answer);
         text(b" -");
-        return;
-    }
-    if length <= out.len() {
+    } else if length <= out.len() {
         text(b"0 ");
         hex(&out[..length]);
     }
@@ -117,10 +108,9 @@ fn seal(line: &[u8]) {
     let mut plaintext = [0u8; 2048];
     let mut out = [0u8; 2112];
     let n = decode(line, 7, &mut plaintext);
-    let seq = protocol::number_at(line, 3);
     let s = record::protect_cbc(
         keys(line),
-        seq.value,
+        protocol::number_at(line, 3).value,
         content_type(line),
         version(line),
         array_16(line, 6),
@@ -136,12 +126,10 @@ fn open(line: &[u8]) {
     let mut r = [0u8; 2048];
     let mut out = [0u8; 2048];
     let n = decode(line, 6, &mut r);
-    let seq = protocol::number_at(line, 3);
-    let kind = content_type(line);
     let o = opening::deprotect_cbc(
         keys(line),
-        seq.value,
-        kind,
+        protocol::number_at(line, 3).value,
+        content_type(line),
         version(line),
         &r[..n],
         &mut out,
@@ -291,39 +279,50 @@ fn finished(line: &[u8]) {
 
 // ---- lines
 
+// Whether a line asks for the command, with fields of these kinds.
+fn asks(line: &[u8], command: &[u8], kinds: &[u8]) -> bool {
+    is_word(line, 0, command) && protocol::fits(line, kinds)
+}
+
 fn answer_other(line: &[u8]) {
-    if is_word(line, 0, b"enc") && fits(line, &[16, 16]) {
+    if asks(line, b"enc", &[16, 16]) {
         encrypt(line);
-    } else if is_word(line, 0, b"dec") && fits(line, &[16, 16]) {
+    } else if asks(line, b"dec", &[16, 16]) {
         decrypt(line);
-    } else if is_word(line, 0, b"master") && fits(line, &[48, 32, 32]) {
+    } else if asks(line, b"master", &[48, 32, 32]) {
         master(line);
-    } else if is_word(line, 0, b"keyblock") && fits(line, &[48, 32, 32, NUMBER]) {
+    } else if asks(line, b"keyblock", &[48, 32, 32, NUMBER]) {
         key_block(line);
-    } else if is_word(line, 0, b"finished") && fits(line, &[48, SIDE, 32]) {
+    } else if asks(line, b"finished", &[48, SIDE, 32]) {
         finished(line);
     } else {
         text(b"bad\n");
     }
 }
 
-fn answer(line: &[u8]) {
-    if is_word(line, 0, b"seal") && fits(line, &[SIDE, 128, NUMBER, 1, 2, 16, BYTES]) {
-        seal(line);
-    } else if is_word(line, 0, b"open") && fits(line, &[SIDE, 128, NUMBER, 1, 2, BYTES]) {
-        open(line);
-    } else if is_word(line, 0, b"sm3") && fits(line, &[BYTES]) {
+fn answer_hash(line: &[u8]) {
+    if asks(line, b"sm3", &[BYTES]) {
         hash_whole(line);
     } else if is_word(line, 0, b"sm3parts") && all_bytes(line) {
         digest(hash_parts(line).finalize());
     } else if is_word(line, 0, b"sm3state") && all_bytes(line) {
         state(hash_parts(line));
-    } else if is_word(line, 0, b"hmac") && fits(line, &[BYTES, BYTES]) {
+    } else {
+        answer_other(line);
+    }
+}
+
+fn answer(line: &[u8]) {
+    if asks(line, b"seal", &[SIDE, 128, NUMBER, 1, 2, 16, BYTES]) {
+        seal(line);
+    } else if asks(line, b"open", &[SIDE, 128, NUMBER, 1, 2, BYTES]) {
+        open(line);
+    } else if asks(line, b"hmac", &[BYTES, BYTES]) {
         mac_whole(line);
     } else if is_word(line, 0, b"hmacparts") && 0 < count(line) && all_bytes(line) {
         digest(mac_parts(line).finalize());
     } else {
-        answer_other(line);
+        answer_hash(line);
     }
 }
 
