@@ -5,7 +5,7 @@ ghost use Prim.Native.Nat.{_≤_, _<_};
 ghost use lib.ListN.{take};
 ghost use Rattle.words.specs.Lists.{xorEach};
 ghost use Rattle.sm3_compress.specs.Rounds.{roundsFrom};
-ghost use Rattle.sm3_compress.specs.Standard.{T, FF, GG, P0, P1, word, words, recurrence, W, W′, round, rounds, CF};
+ghost use Rattle.sm3_compress.specs.Standard.{T, FF, GG, P0, P1, at, word, words, recurrence, W, W′, round, rounds, CF};
 use words::rotate_left;
 use words::wrapping_add3;
 use words::wrapping_add4;
@@ -135,6 +135,14 @@ fn primes(w: &[u32; 68]) -> [u32; 64]
     wp
 }
 
+// Round j, with its two words.
+fn round_at(v: [u32; 8], j: usize, w: &[u32; 68], wp: &[u32; 64]) -> [u32; 8]
+    requires { ⌜ j < 64 ⌝ }
+    ensures { λ r. ⌜ r ≡ round j v (at (now (w .entry)) j) (at (now (wp .entry)) j) ⌝ }
+{
+    one_round(v, j as u32, w[j], wp[j])
+}
+
 // Rounds 0 to 15, four a turn: behind four rounds each word is at its place again, and none has to be moved.
 fn early_rounds(state: [u32; 8], w: &[u32; 68], wp: &[u32; 64]) -> [u32; 8]
     ensures { λ r. ⌜ r ≡ roundsFrom (now (w .entry)) (now (wp .entry)) 0 16 state ⌝ }
@@ -142,10 +150,10 @@ fn early_rounds(state: [u32; 8], w: &[u32; 68], wp: &[u32; 64]) -> [u32; 8]
     let mut v = state;
     for i in 0..4 {
         let j = i * 4;
-        let v1 = one_round(v, j as u32, w[j], wp[j]);
-        let v2 = one_round(v1, (j + 1) as u32, w[j + 1], wp[j + 1]);
-        let v3 = one_round(v2, (j + 2) as u32, w[j + 2], wp[j + 2]);
-        let v4 = one_round(v3, (j + 3) as u32, w[j + 3], wp[j + 3]);
+        let v1 = round_at(v, j, w, wp);
+        let v2 = round_at(v1, j + 1, w, wp);
+        let v3 = round_at(v2, j + 2, w, wp);
+        let v4 = round_at(v3, j + 3, w, wp);
         v = v4;
     }
     v
@@ -158,10 +166,10 @@ fn late_rounds(state: [u32; 8], w: &[u32; 68], wp: &[u32; 64]) -> [u32; 8]
     let mut v = state;
     for i in 0..12 {
         let j = i * 4 + 16;
-        let v1 = one_round(v, j as u32, w[j], wp[j]);
-        let v2 = one_round(v1, (j + 1) as u32, w[j + 1], wp[j + 1]);
-        let v3 = one_round(v2, (j + 2) as u32, w[j + 2], wp[j + 2]);
-        let v4 = one_round(v3, (j + 3) as u32, w[j + 3], wp[j + 3]);
+        let v1 = round_at(v, j, w, wp);
+        let v2 = round_at(v1, j + 1, w, wp);
+        let v3 = round_at(v2, j + 2, w, wp);
+        let v4 = round_at(v3, j + 3, w, wp);
         v = v4;
     }
     v

@@ -1,5 +1,5 @@
 -- `sm3_compress::all_rounds` meets its contract: the first 16 rounds and the 48 behind them. Assumes nothing.
-use mathlib.Core.Path.{_≡_, ap, _∙_}
+use mathlib.Core.Path.{ap, _∙_}
 use borrow.Author.Needs.{needs}
 use Rattle.sm3_compress.specs.Rounds.{roundsFrom}
 use Rattle.sm3_compress.specs.Standard.{rounds}

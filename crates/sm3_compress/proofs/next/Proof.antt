@@ -7,7 +7,7 @@ use Rattle.sm3_compress.proofs.next.Tie as tie
 
 returns : tie.Need-returns
 unfolding recurrence _⊕_
-returns c = simp (c .rotate-left2 .ensures, c .before .p1 .ensures, c .before .before .rotate-left .ensures)
+returns c = rw (c .rotate-left2 .ensures, c .before .p1 .ensures, c .before .before .rotate-left .ensures)
 
 pub next-spec : {M : Type 1} → statement M
 next-spec =
