@@ -73,6 +73,7 @@ uncut K m = cut K (m ∷ []) ∙ ap (mac K) (append-nil m)
 
 -- ---- below 2^61 bytes that hash is SM3
 
+-- of few enough bytes
 hash-bytes : (x : List ℕ) → length x < 2 ^ 61 → hashBytes x ≡ SM3 x
 unfolding hashBytes
 hash-bytes x h = ap (λ (d : Digest). d .bytes) (hash-standard x h)
@@ -98,6 +99,7 @@ module _ (K m : List ℕ) where
   unfoldable pub outer-block : List ℕ
   outer-block = xorEach (K′ SM3 K) opad
 
+  -- each is a block
   length-inner : length inner-block ≡ 64
   unfolding inner-block
   length-inner = length-padded SM3 K 0x36 (omega (arith, length-SM3 K))

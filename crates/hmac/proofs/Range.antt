@@ -15,14 +15,17 @@ use Rattle.hmac.specs.declared.HmacSm3.{HmacSm3}
 use Rattle.hmac.specs.State.{inRange}
 
 module _ (m : HmacSm3) where
+  -- both fills are below 64
   pub in-range : m .inner .«buffer_len» < 64 → m .outer .«buffer_len» < 64 → inRange m ≡ true
   unfolding inRange
   in-range h k = rw (lt-ltb (m .inner .«buffer_len») 64 h, lt-ltb (m .outer .«buffer_len») 64 k)
 
+  -- the inner fill is not
   pub inner-out : 64 ≤ m .inner .«buffer_len» → inRange m ≡ false
   unfolding inRange
   inner-out h = rw (le-ltb (m .inner .«buffer_len») 64 h)
 
+  -- the outer fill is not
   pub outer-out : m .inner .«buffer_len» < 64 → 64 ≤ m .outer .«buffer_len» → inRange m ≡ false
   unfolding inRange
   outer-out h k = rw (lt-ltb (m .inner .«buffer_len») 64 h, le-ltb (m .outer .«buffer_len») 64 k)

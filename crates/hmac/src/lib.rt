@@ -13,9 +13,9 @@ use answers::DONE;
 use sm3::Digest;
 use sm3::Sm3;
 
-const IPAD: u8 = 0x36;
+pub const IPAD: u8 = 0x36;
 
-const OPAD: u8 = 0x5c;
+pub const OPAD: u8 = 0x5c;
 
 // A running MAC: the inner hash, with K' XOR ipad and the message so far, and the outer one, with K' XOR opad.
 pub struct HmacSm3 {
@@ -49,7 +49,7 @@ fn k_prime(key: &[u8]) -> [u8; 64]
 }
 
 // Each byte of the block XOR pad.
-fn xor_pad(block: [u8; 64], pad: u8) -> [u8; 64]
+pub fn xor_pad(block: [u8; 64], pad: u8) -> [u8; 64]
     ensures { λ r. ⌜ r ≡ xorEach block (replicate 64 pad) ⌝ }
 {
     let mut out = [0u8; 64];

@@ -12,15 +12,13 @@ ghost use Rattle.words.specs.Lists.{xorEach};
 ghost use Rattle.sm3.specs.Standard.{count, SM3};
 ghost use Rattle.hmac.specs.Rfc2104.{K′};
 ghost use Rattle.mac_blocks.specs.Schedule.{byteAt, schedule, innerKey, innerBlock, outerKey, outerDigest};
+use hmac::IPAD;
+use hmac::OPAD;
 use masks::select_u32;
 use sm3::BLOCK_SIZE;
 use sm3_compress::compress;
 
 const HEADER_LEN: usize = 13;
-
-const IPAD: u8 = 0x36;
-
-const OPAD: u8 = 0x5c;
 
 // The chaining words, and the inner hash once the final block is past.
 pub struct MacWords {
@@ -34,11 +32,7 @@ fn key_block(mac_key: [u8; 32], pad: u8) -> [u8; 64]
 {
     let mut key = [0u8; 64];
     words::copy_at(&mut key, 0, &mac_key);
-    let mut out = [0u8; 64];
-    for i in 0..64 {
-        out[i] = key[i] ^ pad;
-    }
-    out
+    hmac::xor_pad(key, pad)
 }
 
 // The words after the block of the MAC key XOR 0x36.
