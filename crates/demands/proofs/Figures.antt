@@ -21,12 +21,15 @@ use Rattle.demands.specs.Figures.{ending, figures, Each}
 -- ---- a body that ends in p + 1 bytes of value p, with a MAC's length or more in front
 
 module _ (front p : ℕ) where
+  -- what stands in front
   abbrev before : List ℕ
   before = replicate front 0xaa
 
+  -- all of it
   abbrev body : List ℕ
   body = ending front (suc p) p
 
+  -- as long as asked for
   length-before : length before ≡ front
   length-before = length-replicate front 0xaa
 

@@ -14,6 +14,7 @@ use Rattle.programs.proofs.OneOutcome.{Spread-one-outcome}
 use Rattle.protocol.proofs.OneOutcome.{Decoded-one-outcome}
 use Rattle.demands.specs.Outcomes.{Outcomes}
 
+-- by the law beside each promise
 pub outcomes : Outcomes
 outcomes =
     record {

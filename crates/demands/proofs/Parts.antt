@@ -65,6 +65,7 @@ verifies K ds expected =
     rw (cut-mac K ds)
     (agree-eq (mac K (joined ds) .bytes) expected, λ e. rw (← e) (agree-refl (mac K (joined ds) .bytes)))
 
+-- the laws of hmac
 pub mac-is : Mac
 unfolding mac hashBytes
 mac-is = record { over-the-hash = λ K m. refl; the-hash = λ m. refl; standard = mac-standard; cut = cut-mac; verified-exactly = verifies }

@@ -1,8 +1,8 @@
 -- The stand-ins for a sealer and an opener do not meet demand 2: a text that was sealed must come back, and two texts differ.
 -- Assumes nothing.
-use mathlib.Core.List.{List, [], _++_}
+use mathlib.Core.List.{List, []}
 use mathlib.Core.Path.{_≡_, refl, ap, _∙_}
-use Prim.Native.Nat.{ℕ, suc, _%_, _≤_}
+use Prim.Native.Nat.{ℕ, _≤_}
 use native.Mathlib.Omega.{arith}
 use lib.Dec.{lit<, lit≤}
 use lib.ListN.{length, getD, replicate, length-replicate}
@@ -18,8 +18,8 @@ use Rattle.cbc.proofs.Sm4.{enciphers}
 use Rattle.record.specs.declared.RecordKeysCbc.{RecordKeysCbc}
 use Rattle.record.specs.declared.Sealed.{Sealed}
 use Rattle.record.specs.KeyBlock.{zeroKeys}
-use Rattle.record.specs.Standard.{tagOf, padding, bodyOf, padOf, sealedBy, sealedRecord, sealedLength}
-use Rattle.record.proofs.Records.{length-tag, bytes-tag, length-sealed-body}
+use Rattle.record.specs.Standard.{tagOf, bodyOf, padOf, sealedBy, sealedRecord, sealedLength}
+use Rattle.record.proofs.Records.{length-tag, bytes-tag, bytes-body, whole-blocks}
 use Rattle.opening.specs.declared.Opened.{Opened}
 use Rattle.opening.specs.Given.{Given}
 use Rattle.demands.specs.Openers.{Opener, ourSealer, StatedRecord, RoundTrip, ExactAcceptance}
@@ -29,18 +29,15 @@ use Rattle.demands.proofs.Demand2.{sealedGiven, decrypted-sealed, seale
 -- a sealed record is bytes
 bytes-sealed : (keys : RecordKeysCbc) (seq type : ℕ) (version iv text : List ℕ) → Block iv → Bytes text
     → Bytes (sealedRecord keys seq type version iv text)
-unfolding sealedRecord sealedBy bodyOf padOf
+unfolding sealedRecord sealedBy
 bytes-sealed keys seq type version iv text hiv bytes =
     let rks = roundKeys (keys .«enc_key») in
     let tag = tagOf (keys .«mac_key») seq type version in
-    let p = padOf (length text) in
-    let body = bodyOf tag text p in
-    let whole : length body % 16 ≡ 0 = omega (arith, length-sealed-body tag (length-tag (keys .«mac_key») seq type version) text) in
-    let all : Bytes body =
-    bytes-append text (tag text ++ padding p) bytes
-    (bytes-append (tag text) (padding p) (bytes-tag (keys .«mac_key») seq type version text) (bytes-replicate (suc p) p (omega arith))) in
+    let size = length-tag (keys .«mac_key») seq type version in
+    let body = bodyOf tag text (padOf (length text)) in
+    let all = bytes-body tag size text bytes (bytes-tag (keys .«mac_key») seq type version text) in
     bytes-append iv (cbcEnc (encrypt rks) iv body) (hiv .bytes)
-    (bytes-cbcEnc (encrypt rks) (decrypt rks) (enciphers rks) iv body hiv all whole)
+    (bytes-cbcEnc (encrypt rks) (decrypt rks) (enciphers rks) iv body hiv all (whole-blocks tag size text))
 
 -- ---- an opener must hand out what was sealed
 
@@ -55,18 +52,22 @@ record HandsOut (opens : Opener) (n : ℕ) : Type 0 where
 unfoldable zeros : ℕ → List ℕ
 zeros n = replicate n 0
 
+-- sixteen zeros are a block
 block-zeros : Block (zeros 16)
 unfolding zeros
 block-zeros = record { size = refl; bytes = bytes-replicate 16 0 (lit< tt) }
 
 module _ (opens : Opener) (n : ℕ) (few : n ≤ 15) where
+  -- a text of n zeros
   unfoldable text : List ℕ
   text = zeros n
 
+  -- is bytes
   bytes-text : Bytes text
   unfolding text zeros
   bytes-text = bytes-replicate n 0 (lit< tt)
 
+  -- n of them
   length-text : length text ≡ n
   unfolding text zeros
   length-text = length-replicate n 0

@@ -58,8 +58,15 @@ module _ (tag : List ℕ → List ℕ) (size : (t : List ℕ) → length (tag t)
   length-sealed-body = length-body tag size text (padOf (length text)) ∙ omega arith
 
   -- in whole blocks
-  whole-blocks : length (bodyOf tag text (padOf (length text))) % 16 ≡ 0
+  pub whole-blocks : length (bodyOf tag text (padOf (length text))) % 16 ≡ 0
   whole-blocks = omega (arith, length-sealed-body)
+
+  -- and is bytes, where text and MAC are
+  pub bytes-body : Bytes text → Bytes (tag text) → Bytes (bodyOf tag text (padOf (length text)))
+  unfolding bodyOf padOf
+  bytes-body bt bm =
+      let p = padOf (length text) in
+      bytes-append text (tag text ++ padding p) bt (bytes-append (tag text) (padding p) bm (bytes-replicate (suc p) p (omega arith)))
 
   module _ (E : List ℕ → List ℕ) (iv : List ℕ) (hiv : length iv ≡ 16) where
     -- the IV and the body
@@ -74,21 +81,13 @@ module _ (tag : List ℕ → List ℕ) (size : (t : List ℕ) → length (tag t)
 
   module _ (E D : List ℕ → List ℕ) (C : Cipher E D) (iv : List ℕ) (hiv : Block iv) (bt : Bytes text) (bm : Bytes (tag text))
     where
-      -- the body is bytes
-      bytes-body : Bytes (bodyOf tag text (padOf (length text)))
-      unfolding bodyOf padOf
-      bytes-body =
-          bytes-append text (tag text ++ padding (padOf (length text))) bt
-          (bytes-append (tag text) (padding (padOf (length text))) bm
-          (bytes-replicate (suc (padOf (length text))) (padOf (length text)) (omega arith)))
-
       -- what stands behind the IV deciphers to the body
       pub opened-body : cbcDec D iv (drop IV-LEN (sealedBy E tag iv text)) ≡ bodyOf tag text (padOf (length text))
       unfolding sealedBy
       opened-body =
           let body = bodyOf tag text (padOf (length text)) in
           ap (cbcDec D iv) (drop-at iv (cbcEnc E iv body) 16 (hiv .size))
-          ∙ cbc-dec-enc E D C iv body hiv bytes-body whole-blocks
+          ∙ cbc-dec-enc E D C iv body hiv (bytes-body bt bm) whole-blocks
 
 -- ---- at SM4 and HMAC-SM3
 

@@ -35,6 +35,7 @@ pub record Sound (s : OpeningCbc) (r room : ℕ) : Type 0 where
   pub whole : r ≡ s .n + 16
   pub fits : s .n ≤ room
 
+-- an opening that is not broken is within them
 pub sound : (s : OpeningCbc) (r room : ℕ) → broken s r room ≡ false → Sound s r room
 unfolding broken
 sound s r room e =
@@ -72,18 +73,22 @@ one-more s r room g e = leb-false (s .total) (s .done) (rw e at (g .unfinished))
 -- ---- the work by the number of steps done
 
 module _ (n k : ℕ) where
+  -- steps 1 to m
   pub at-decipher : k < blocks n → workAt n k ≡ decipher k
   unfolding workAt
   at-decipher a = rw (lt-ltb _ _ a)
 
+  -- step m + 1
   pub at-padding : k ≡ blocks n → workAt n k ≡ readPadding
   unfolding workAt
   at-padding a = rw (le-ltb k (blocks n) (omega arith), eq-eqb _ _ a)
 
+  -- the next B
   pub at-inner : blocks n < k → k < blocks n + 1 + macSteps n → workAt n k ≡ inner (k - (blocks n + 1))
   unfolding workAt
   at-inner a b = rw (le-ltb k (blocks n) (omega arith), ne-eqb k (blocks n) (λ e. omega arith), lt-ltb _ _ b)
 
+  -- the outer hash's two
   pub at-outer-pad : k ≡ blocks n + 1 + macSteps n → workAt n k ≡ outerPad
   unfolding workAt
   at-outer-pad a =
@@ -100,6 +105,7 @@ module _ (n k : ℕ) where
         eq-eqb _ _ a,
       )
 
+  -- the last
   pub at-answering : blocks n + 2 + macSteps n < k → workAt n k ≡ answering
   unfolding workAt
   at-answering a =

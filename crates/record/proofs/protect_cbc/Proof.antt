@@ -40,6 +40,7 @@ module _ (c : tie.Else2) where
   abbrev s : tie.Start
   s = c .before .before .before .before .before
 
+  -- the text, its MAC and the body
   abbrev text : List ℕ
   text = s .args .plaintext .now
 
@@ -49,6 +50,7 @@ module _ (c : tie.Else2) where
   abbrev body : List ℕ
   body = bodyOf tag text (padOf (length text))
 
+  -- the MAC is 32 bytes
   tag-length : (t : List ℕ) → length (tag t) ≡ 32
   tag-length = length-tag (s .args .keys .«mac_key») (s .args .seq) (s .args .content-type) (s .args .version)
 
@@ -60,6 +62,7 @@ module _ (c : tie.Else2) where
       let t : c .before .sealed-length .result ≡ 16 * (length text / 16 + 4) = c .before .sealed-length .ensures in
       (omega arith, omega arith, omega arith)
 
+  -- so the answer is 0
   done : answerOf (length text) (length (s .args .out .now)) ≡ Done
   done = answer-done (length text) (length (s .args .out .now)) (omega arith) (omega (arith, c .before .sealed-length .ensures))
 
@@ -68,6 +71,7 @@ module _ (c : tie.After-slice-known2) where
   abbrev checked : tie.Else2
   checked = c .before .before .before .before .before .before .before .before .before
 
+  -- the length stays with the IV laid there
   first-length : length (c .before .before .copy-at .last .0) ≡ length (s checked .args .out .now)
   first-length = ap length (c .before .before .copy-at .ensures .output) ∙ simp length-put
 

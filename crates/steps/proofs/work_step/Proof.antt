@@ -17,9 +17,11 @@ module _ (c : tie.After-mac-steps) where
   ok : Sound (c .before .before .before .args .opening) (length (c .before .before .before .args .«record» .now)) (length (c .before .before .before .args .out .now))
   ok = sound _ _ _ (c .before .before .before .pre .0)
 
+  -- a step is left
   more : c .before .before .before .args .opening .done < c .before .before .before .args .opening .total
   more = one-more _ _ _ ok (c .before .before .before .pre .1)
 
+  -- where the hashing ends
   ends : c .mac-steps .result ≡ macSteps (c .before .before .before .args .opening .n)
   ends = c .mac-steps .ensures
 
