@@ -18,9 +18,11 @@ pub record Sixteen (key block out : List ℕ) : Type 0 where
 
 -- t is what the test said
 module _ {t : Bool} (key block out : List ℕ) (e : t ≡ blockSizes key block out) where
+  -- it failed: a size is not right
   pub failed : not t ≡ true → blockSizes key block out ≡ false
   failed n = sym e ∙ not-true t n
 
+  -- it held: every size is right
   pub passed : not t ≡ false → Sixteen key block out
   passed n = let w = sym e ∙ not-false t n in record { sizes = w; long = block-long key block out w }
 

@@ -43,13 +43,16 @@ module _ (E D : List ℕ → List ℕ) (C : Cipher E D) (iv x : List ℕ) (hiv :
         C .keeps (xorEach (chain E iv x k) (block 16 k x))
         (block-xor (chain E iv x k) (block 16 k x) (chain-block k (omega arith)) (block-of x k bx (omega arith)))
 
+    -- 16 bytes each
     sized : (k : ℕ) → k < length x / 16 → length (cipherBlock E iv x k) ≡ 16
     sized k b = chain-block (suc k) b .size
 
+    -- the length stays
     pub length-cbcEnc : length (cbcEnc E iv x) ≡ length x
     unfolding cbcEnc
     length-cbcEnc = length-join 16 (cipherBlock E iv x) (length x / 16) sized ∙ omega arith
 
+    -- and what is enciphered is bytes
     pub bytes-cbcEnc : Bytes (cbcEnc E iv x)
     unfolding cbcEnc
     bytes-cbcEnc = bytes-join (length x / 16) (cipherBlock E iv x) (λ k b. chain-block (suc k) b .bytes)
@@ -61,6 +64,7 @@ module _ (E D : List ℕ → List ℕ) (C : Cipher E D) (iv x : List ℕ) (hiv :
     record-block (suc k) b =
         block-behind 16 k iv (cbcEnc E iv x) (hiv .size) ∙ block-join 16 (cipherBlock E iv x) (length x / 16) k sized b
 
+    -- plain block k of them is block k of x
     plain-block : (k : ℕ) → k < length x / 16 → plain D (iv ++ cbcEnc E iv x) k ≡ block 16 k x
     unfolding plain chain
     plain-block k b =
@@ -72,6 +76,7 @@ module _ (E D : List ℕ → List ℕ) (C : Cipher E D) (iv x : List ℕ) (hiv :
         ∙ ap (xorEach last) (C .undoes (xorEach last here) (block-xor last here hl hh))
         ∙ xorEach-twice last here (hl .size ∙ sym (hh .size))
 
+    -- so all of them are x
     pub cbc-dec-enc : cbcDec D iv (cbcEnc E iv x) ≡ x
     unfolding cbcDec
     cbc-dec-enc =
@@ -88,19 +93,23 @@ module _ (E D : List ℕ → List ℕ) (C : Cipher D E) (iv y : List ℕ) (hiv :
     whole-block k b =
         block-of (iv ++ y) k (bytes-append iv y (hiv .bytes) by) (omega (arith, length-append iv y, hiv .size))
 
+    -- every plain block is a block
     plain-is-block : (k : ℕ) → k < length y / 16 → Block (plain D (iv ++ y) k)
     unfolding plain
     plain-is-block k b =
         block-xor (block 16 k (iv ++ y)) (D (block 16 (suc k) (iv ++ y))) (whole-block k (omega arith))
         (C .keeps (block 16 (suc k) (iv ++ y)) (whole-block (suc k) b))
 
+    -- 16 bytes each
     plain-sized : (k : ℕ) → k < length y / 16 → length (plain D (iv ++ y) k) ≡ 16
     plain-sized k b = plain-is-block k b .size
 
+    -- the length stays
     pub length-cbcDec : length (cbcDec D iv y) ≡ length y
     unfolding cbcDec
     length-cbcDec = length-join 16 (plain D (iv ++ y)) (length y / 16) plain-sized ∙ omega arith
 
+    -- and what is deciphered is bytes
     pub bytes-cbcDec : Bytes (cbcDec D iv y)
     unfolding cbcDec
     bytes-cbcDec = bytes-join (length y / 16) (plain D (iv ++ y)) (λ k b. plain-is-block k b .bytes)
@@ -119,6 +128,7 @@ module _ (E D : List ℕ → List ℕ) (C : Cipher D E) (iv y : List ℕ) (hiv :
         ∙ ap E (xorEach-twice last (D next) (hl .size ∙ sym (C .keeps next hn .size)))
         ∙ C .undoes next hn
 
+    -- so all of them are y
     pub cbc-enc-dec : cbcEnc E iv (cbcDec D iv y) ≡ y
     unfolding cbcEnc
     cbc-enc-dec =

@@ -17,6 +17,7 @@ use Rattle.cbc.proofs.Cbc.{cbc-dec-enc, cbc-enc-dec}
 pub enciphers : (rks : List ℕ) → Cipher (encrypt rks) (decrypt rks)
 enciphers rks = record { keeps = λ b _. encrypt-block rks b; undoes = decrypt-encrypt rks }
 
+-- the other way round
 pub deciphers : (rks : List ℕ) → Cipher (decrypt rks) (encrypt rks)
 deciphers rks = record { keeps = λ b _. decrypt-block rks b; undoes = encrypt-decrypt rks }
 

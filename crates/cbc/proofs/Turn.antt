@@ -50,6 +50,7 @@ done-none E iv x = record { within = omega arith; long = refl; last = refl; so-f
 
 module _ {E : List ℕ → List ℕ} {iv x o prev : List ℕ} {k : ℕ} (sizes : (b : List ℕ) → length (E b) ≡ 16)
     (d : Done E iv x o prev k) where
+  -- a cipher block is 16 bytes long
   sized : (j : ℕ) → length (cipherBlock E iv x j) ≡ 16
   unfolding chain
   sized j = sizes (xorEach (chain E iv x j) (block 16 j x))

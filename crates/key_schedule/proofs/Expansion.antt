@@ -48,6 +48,7 @@ module _ (M : List ℕ → List ℕ → List ℕ) (secret seed : List ℕ) where
         length-take-le n (join (blocks n) (blockFrom M secret seed a))
         (rw (length-join 32 (blockFrom M secret seed a) (blocks n) (λ k _. digest (A M secret a k ++ seed))) (blocks-enough n))
 
+    -- and so has P_hash
     pub length-P-hash : (n : ℕ) → length (P-hash M secret seed n) ≡ n
     length-P-hash n = ap length (P-hash-start n) ∙ length-rest (M secret seed) n
 

@@ -22,6 +22,7 @@ length-part n l = ap length (part-to-end n l) ∙ length-drop n l
 
 -- secret, seed and A(i) = a as p_sm3 has them; out as it found it, and w as the copy of the block left it
 module _ (secret seed a out w : List ℕ) (laid : w ≡ put 0 (HMAC SM3 secret (a ++ seed)) out) where
+  -- the length stays
   length-laid : length w ≡ length out
   length-laid = ap length laid ∙ length-put 0 (HMAC SM3 secret (a ++ seed)) out
 

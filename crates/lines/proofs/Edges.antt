@@ -33,6 +33,7 @@ linesFrom-ended a (b ∷ l) rest h = by (eqb b NEWLINE) h (linesFrom-ended (a ++
     by true e ih = cc
     by false e ih = ih (cc) ∙ rw append-assoc
 
+-- and at the end of the input it is the last line
 linesFrom-last : (a l : List ℕ) → front l ≡ l → linesFrom a l ≡ last (a ++ l)
 unfolding linesFrom front
 linesFrom-last a [] h = rw append-nil
@@ -79,6 +80,7 @@ figures = (refl, refl, refl, refl, refl, refl, refl, refl, refl, refl, refl)
 abbrev pub zeros : ℕ → List ℕ
 zeros n = replicate n 0x30 ++ (NEWLINE ∷ [])
 
+-- its whole output
 pub example :
     map (judged MAX-LINE) (lines ((0x30 ∷ 0x31 ∷ 0x30 ∷ 0x31 ∷ NEWLINE ∷ []) ++ (zeros 128 ++ (zeros 130 ++ (NEWLINE ∷ [])))))
     ≡ shown 2 3 0 ∷ shown 64 0 8 ∷ shown 65 4 0 ∷ shown 0 3 0 ∷ []

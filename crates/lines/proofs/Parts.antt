@@ -26,6 +26,7 @@ allHex-append (x ∷ a) b = by (isHex x) (allHex-append a b)
 count-stays : (n a b : ℕ) → min (min (n + a) MOST + b) MOST ≡ min (n + (a + b)) MOST
 count-stays n a b = omega arith
 
+-- three tests in either grouping
 and-assoc : (s t u : Bool) → ((s && t) && u) ≡ (s && (t && u))
 and-assoc true t u = refl
 and-assoc false t u = refl

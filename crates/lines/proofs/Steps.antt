@@ -32,6 +32,7 @@ ends-here : (b : ℕ) (l : List ℕ) → eqb b NEWLINE ≡ true → ends (b ∷ 
 unfolding ends front
 ends-here b l e = rw e (lt-ltb 0 (suc (length l)) (omega arith))
 
+-- and leaves what stands behind it
 rest-here : (b : ℕ) (l : List ℕ) → eqb b NEWLINE ≡ true → rest (b ∷ l) ≡ l
 unfolding rest front
 rest-here b l e = rw (ends-here b l e, e)
@@ -41,6 +42,7 @@ ends-later : (b : ℕ) (l : List ℕ) → eqb b NEWLINE ≡ false → ends (b �
 unfolding ends front
 ends-later b l e = rw e (leb·suc-suc (suc (length (front l))) (length l))
 
+-- and what is left too
 rest-later : (b : ℕ) (l : List ℕ) → eqb b NEWLINE ≡ false → rest (b ∷ l) ≡ rest l
 unfolding rest front
 rest-later b l e = rw (ends-later b l e, e) (by (ends l))
@@ -56,6 +58,7 @@ ends-none : ends [] ≡ false
 unfolding ends front
 ends-none = refl
 
+-- of an empty input
 rest-none : rest [] ≡ []
 unfolding rest ends front
 rest-none = refl
@@ -68,10 +71,12 @@ module _ {X : Type 0} (f : Line → List ℕ → X) (g : Line → X → X)
   past : Line → List ℕ → X
   past line l = cond (ends l) (g line (f fresh (rest l))) (f line (rest l))
 
+  -- a newline in front
   past-here : (line : Line) (b : ℕ) (l : List ℕ) → eqb b NEWLINE ≡ true → g line (f fresh l) ≡ past line (b ∷ l)
   unfolding past
   past-here line b l e = rw (ends-here b l e, rest-here b l e)
 
+  -- another byte in front
   past-later : (line : Line) (b : ℕ) (l : List ℕ) → eqb b NEWLINE ≡ false → past line l ≡ past line (b ∷ l)
   unfolding past
   past-later line b l e = rw (ends-later b l e, rest-later b l e)

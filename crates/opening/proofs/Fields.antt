@@ -23,6 +23,7 @@ leb-add a i j = by (leb i j) refl
     by false e = lt-leb (a + i) (a + j) (omega (arith, leb-false i j e))
 
 module _ (g : Given) where
+  -- m and B, and the MAC key
   abbrev m : ℕ
   m = blocks (size g)
 
@@ -85,6 +86,7 @@ module _ (g : Given) where
   unfolding heldAfter
   held-none k h = rw (le-leb k m h)
 
+  -- and no mark
   pub mark-none : (k : ℕ) → k ≤ m → markAfter g k ≡ false
   unfolding markAfter
   mark-none k h = rw (le-leb k m h)
@@ -94,6 +96,7 @@ module _ (g : Given) where
   unfolding heldAfter
   held-read k h = rw (lt-leb k m h)
 
+  -- and its mark
   pub mark-read : (k : ℕ) → m < k → markAfter g k ≡ goodPad (decrypted g)
   unfolding markAfter
   mark-read k h = rw (lt-leb k m h)

@@ -36,6 +36,7 @@ hmac-at-end g =
     ap (λ (w : List ℕ). bytesOf (outerDigest (outerKey K) w)) (sym (kept-is-inner-hash g)) ∙ sym (tag-blocks K (covered g))
 
 module _ (g : Given) {o : List ℕ} (f : Fits g o) where
+  -- the decryption
   abbrev d : List ℕ
   d = decrypted g
 

@@ -50,6 +50,7 @@ Turns g o k w =
     × (outputBy w (running g k) (g .r) (outAfter g o k) ≡ outAfter g o (suc k))
 
 module _ (g : Given) {o : List ℕ} (f : Fits g o) where
+  -- m and B, and the MAC key
   abbrev m : ℕ
   m = blocks (size g)
 

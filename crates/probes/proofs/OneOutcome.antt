@@ -4,6 +4,7 @@ use mathlib.Core.Path.{_≡_, sym, _∙_}
 use Prim.Native.Nat.{ℕ}
 use Rattle.probes.specs.Promise.{MacedParts}
 
+-- `probe_hmac_parts`
 pub MacedParts-one-outcome : {key first second third out : List ℕ} {a b : ℕ} {x y : List ℕ}
     → MacedParts key first second third out a x → MacedParts key first second third out b y → (a ≡ b) × (x ≡ y)
 MacedParts-one-outcome p q = (p .result ∙ sym (q .result), p .output ∙ sym (q .output))

@@ -48,11 +48,13 @@ next-fits l at = by (length (upTo 0x20 (drop at l))) (ltb (length (upTo 0x20 (dr
     by n true e = omega (arith, ltb-true n (length l - at) e)
     by n false e = omega arith
 
+-- field k does not
 pub start-fits : (k : ℕ) (l : List ℕ) → startOf k l ≤ length l
 unfolding startOf
 start-fits zero l = omega arith
 start-fits (suc k) l = next-fits l (startOf k l)
 
+-- field k + 1 starts behind field k
 pub start-next : (k : ℕ) (l : List ℕ) → startOf (k + 1) l ≡ nextOf l (startOf k l)
 unfolding startOf
 start-next k l = rw (add-one k)
@@ -107,6 +109,7 @@ module _ (f o out : List ℕ) (i : ℕ) (e : out ≡ paste o 0 (decoded f) i) wh
       (ap (λ (j : ℕ). set (paste o 0 (decoded f) i) j (getD (decoded f) i 0)) (sym (zero-add i))
       ∙ paste-suc o 0 (decoded f) i 0 (omega arith) k)
 
+  -- the length stays
   pub laid-length : i ≤ length o → i ≤ length (decoded f) → length out ≡ length o
   laid-length h k = ap length e ∙ length-paste o 0 (decoded f) i (omega arith) k
 

@@ -30,6 +30,7 @@ module _ (line kinds : List ℕ) (i : ℕ) where
 
 -- the same of one kind n times
 module _ (line : List ℕ) (kind n i : ℕ) where
+  -- one field of the kind
   pub each-here : i < n → isKind (fieldOf (i + 1) line) kind ≡ true
       → kindsFrom line i (replicate (n - i) kind) ≡ kindsFrom line (i + 1) (replicate (n - (i + 1)) kind)
   unfolding kindsFrom
@@ -37,12 +38,14 @@ module _ (line : List ℕ) (kind n i : ℕ) where
       let k : n - i ≡ suc (n - (i + 1)) = omega arith in
       rw (k, e)
 
+  -- one of another
   pub each-wrong : i < n → isKind (fieldOf (i + 1) line) kind ≡ false → kindsFrom line i (replicate (n - i) kind) ≡ false
   unfolding kindsFrom
   each-wrong h e =
       let k : n - i ≡ suc (n - (i + 1)) = omega arith in
       rw (k, e)
 
+  -- the end
   pub each-done : n ≤ i → kindsFrom line i (replicate (n - i) kind) ≡ true
   unfolding kindsFrom
   each-done h =

@@ -14,6 +14,7 @@ pub record Allowed (n : ℕ) : Type 0 where
   pub most : n ≤ 16432
   pub whole : n % 16 ≡ 0
 
+-- what the test says
 pub allowed-facts : (n : ℕ) → allowed n ≡ true → Allowed n
 unfolding allowed
 allowed-facts n e = go (leb 48 n) refl (leb n 16432) refl (eqb (n % 16) 0) refl e
@@ -24,6 +25,7 @@ allowed-facts n e = go (leb 48 n) refl (leb n 16432) refl (eqb (n % 16) 0) refl 
     go true f false g c h z = absurd (false≢true z)
     go false f b g c h z = absurd (false≢true z)
 
+-- and what makes it hold
 pub facts-allowed : (n : ℕ) → Allowed n → allowed n ≡ true
 unfolding allowed
 facts-allowed n a = rw (le-leb 48 n (a .least), le-leb n 16432 (a .most), eq-eqb (n % 16) 0 (a .whole))

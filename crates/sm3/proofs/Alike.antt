@@ -19,6 +19,7 @@ unfolding finalized pending
 alike-digest h g k = cc
 
 module _ (h g : Sm3) (d : List ℕ) (k : Alike h g) where
+  -- what is pending is the same
   same-pending : pending h d ≡ pending g d
   unfolding pending
   same-pending = ap (λ (w : List ℕ). w ++ d) (k .waiting)
@@ -28,6 +29,7 @@ module _ (h g : Sm3) (d : List ℕ) (k : Alike h g) where
   unfolding taken absorbed
   waiting-rest s = take-over (rest (pending s d)) (base s (pending s d)) (length (pending s d) % 64) (length-rest (pending s d))
 
+  -- so what an update leaves is alike
   alike-taken : Alike (taken h d) (taken g d)
   unfolding taken absorbed
   alike-taken =

@@ -23,6 +23,7 @@ pub zeros-rule : (l : ℕ) → ((l + 1 + zeros l) % 64 ≡ 56) × (zeros l < 64)
 unfolding zeros
 zeros-rule l = (omega arith, omega arith)
 
+-- eight bytes
 pub length-count : (n : ℕ) → length (count n) ≡ 8
 unfolding count
 length-count n = length-be 8 (8 * n)
@@ -59,6 +60,7 @@ abbrev pub marked : List ℕ → ℕ → ℕ → List ℕ
 marked b f j = take f b ++ (0x80 ∷ replicate j 0)
 
 module _ (b : List ℕ) (f : ℕ) (size : length b ≡ 64) (fits : f < 64) where
+  -- f bytes, 0x80 and j zeros
   length-marked : (j : ℕ) → length (marked b f j) ≡ f + 1 + j
   length-marked j =
       let front : length (take f b) ≡ f = length-take-le f b (omega arith) in

@@ -61,34 +61,41 @@ rest-append a b q e =
     let n : length (a ++ b) / 64 * 64 ≡ length a + length b / 64 * 64 = omega (arith, length-append a b) in
     rw n (drop-append-add a b (length b / 64 * 64))
 
+-- fewer bytes than a block are all left
 pub rest-short : (m : List ℕ) → length m < 64 → rest m ≡ m
 unfolding rest
 rest-short m h =
     let n : length m / 64 * 64 ≡ 0 = omega arith in
     rw n
 
+-- less than a block is left
 pub length-rest : (m : List ℕ) → length (rest m) ≡ length m % 64
 unfolding rest
 length-rest m = simp length-drop (omega arith)
 
 -- a message and more of it: its whole blocks first, then what they left with the rest
 module _ (m d : List ℕ) where
+  -- the whole blocks of m
   front : List ℕ
   front = take (length m / 64 * 64) m
 
+  -- so many bytes
   length-front : length front ≡ length m / 64 * 64
   unfolding front
   length-front = length-take-le (length m / 64 * 64) m (omega arith)
 
+  -- with what is left they are m
   front-rest : (x : List ℕ) → front ++ (rest m ++ x) ≡ m ++ x
   unfolding front rest
   front-rest x =
       sym (append-assoc (take (length m / 64 * 64) m) (drop (length m / 64 * 64) m) x)
       ∙ ap (λ (l : List ℕ). l ++ x) (take-append-drop (length m / 64 * 64) m)
 
+  -- what is left of both
   pub rest-more : rest (m ++ d) ≡ rest (rest m ++ d)
   rest-more = ap rest (sym (front-rest d)) ∙ rest-append front (rest m ++ d) (length m / 64) length-front
 
+  -- the words after both
   pub iteration-more : (v : List ℕ) → iteration v (m ++ d) ≡ iteration (iteration v m) (rest m ++ d)
   unfolding iteration front rest
   iteration-more v =

@@ -31,6 +31,7 @@ pub length-hashed : (m : List ℕ) → length (hashed m .bytes) ≡ 32
 unfolding hashed
 length-hashed m = length-bytesOf (iteration IV (m ++ ending (length m) (length m % 2 ^ 64)))
 
+-- and so is the standard's
 pub length-SM3 : (m : List ℕ) → length (SM3 m) ≡ 32
 unfolding SM3
 length-SM3 m = length-bytesOf (iteration IV (padded m))

@@ -50,6 +50,7 @@ module _ {M : Type 1} (𝓤 : URA M) (H : Heap 𝓤) (A : Atoms 𝓤) (W : Given
   abbrev pub made : New 𝓤 H A at-mem run .Ghost
   made = ((tt, tt, tt, tt, tt), tt)
 
+  -- so nothing is enough for it
   pub asks-nothing : ent 𝓤 (emp 𝓤) (New 𝓤 H A at-mem run .pre made)
   asks-nothing = qed W [] ∵ nothing ! $ nothing ! $ join ! $ frame ! $ done !
 
@@ -82,6 +83,7 @@ module _ {M : Type 1} (𝓤 : URA M) (H : Heap 𝓤) (A : Atoms 𝓤) (W : Given
 -- the call: κ, q are the lifetime of the data d and a share of its token
 module _ {M : Type 1} (𝓤 : URA M) (H : Heap 𝓤) (A : Atoms 𝓤) (W : Given 𝓤 H A) (at-mem : Memory → SProp 𝓤) (run : Routine → Fun 𝓤)
     (κ : Lft) (q : Share) (d : RefT (List ℕ)) (h : Sm3) (b o : ℕ) where
+  -- the data's machine value: a pointer and a length
   abbrev v : Val
   v = sliceVal (d .ptr) (length (d .now))
 
@@ -97,6 +99,7 @@ module _ {M : Type 1} (𝓤 : URA M) (H : Heap 𝓤) (A : Atoms 𝓤) (W : Given
   abbrev pub Aside : ℕ → GName → Fml
   Aside α δ = flent (α ∷ []) (Body (mem State) b o δ)
 
+  -- that, and what the call asks
   abbrev Asked : ℕ → GName → SProp 𝓤
   Asked α δ = sep 𝓤 (sem 𝓤 H A (Aside α δ)) (Update 𝓤 H A at-mem run .pre (called α δ))
 

@@ -16,9 +16,11 @@ use Rattle.sm3.proofs.Sm3.Laws as S′
 use Rattle.sm3.proofs.Updated as U
 use Rattle.sm3.proofs.Updated.Laws as U′
 
+-- a state
 abbrev pub State : RattleType
 State = S.the-row
 
+-- an update's result
 abbrev pub Result : RattleType
 Result = U.the-row
 

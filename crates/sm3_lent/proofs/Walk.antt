@@ -24,6 +24,7 @@ use denote.Triple.Walked.{Stays, AllGo, walkOf, walked, walk-meets}
 -- the function's signature and clauses, what is had of its parameters at exit, and what the calls in its code mean
 module _ {M : Type 1} (𝓤 : URA M) (H : Heap 𝓤) (𝓜 : Model 𝓤 H) (𝓖 : GhostRules 𝓤 H) (𝓡 : Running 𝓤 H 𝓜)
     (T : Ended) (hs : Stays (T .signature .params) (T .kept)) (c : Clauses 𝓤 T) (γ : Env) where
+  -- the signature, the atoms, what is given of them, the calls and the loops
   abbrev S : Signature
   S = T .signature
 
@@ -46,6 +47,7 @@ module _ {M : Type 1} (𝓤 : URA M) (H : Heap 𝓤) (𝓜 : Model 𝓤 H) (𝓖
       → ent 𝓤 (onEntry 𝓤 H A S κs qs a (valss (typesAt (S .params) κs) (sp κs) a))
       (WpFn 𝓤 H C Λ f (flat (typesAt (S .params) κs) (valss (typesAt (S .params) κs) (sp κs) a)) (walkOf 𝓤 H A T hs c .post ((κs, qs, bounds, a, valss (typesAt (S .params) κs) (sp κs) a), g)))
 
+  -- a walk of the code that the name stands for, and so the contract
   pub by-walk : AllGo 𝓤 H A W (S .lifetimes) (S .params) (T .kept) hs → (k : Name) (f : Fn) → Closed 𝓤 H C Λ k f
       → (sp : (κs : Lfts (S .lifetimes)) → Spells (typesAt (S .params) κs)) → ((κs : Lfts (S .lifetimes)) → Tellss (typesAt (S .params) κs) (Ises (typesAt (S .params) κs)) (sp κs))
       → (FmC 𝓤 H (W .laws) C → Walk f sp) → Triple 𝓤 (C k) (tripleOf 𝓤 H A S (closing 𝓤 H A T c))

@@ -38,6 +38,7 @@ unfolding rounds
 rounds-append X [] ls = refl
 rounds-append X (k ∷ ks) ls = rounds-append (round X k) ks ls
 
+-- all rounds, and the same ones from the last key to the first
 rounds-undone : (X : Quad) (rks : List ℕ) → rounds (R (rounds X rks)) (reverse rks) ≡ R X
 unfolding rounds
 rounds-undone X [] = refl
@@ -56,6 +57,7 @@ bytes-Sbox [] i = lit< tt
 bytes-Sbox (x ∷ l) zero = Sbox-byte x
 bytes-Sbox (x ∷ l) (suc i) = bytes-Sbox l i
 
+-- T gives a word
 T-lt : (X : ℕ) → T X < 2 ^ 32
 unfolding T L tau be
 T-lt X =
@@ -66,12 +68,14 @@ T-lt X =
     (⊕-lt 32 (⊕-lt 32 (⊕-lt 32 h (turned 2 (lit< tt))) (turned 10 (lit< tt))) (turned 18 (lit< tt)))
     (turned 24 (lit< tt))
 
+-- four words
 record Words (q : Quad) : Type 0 where
   x0-lt : q .x0 < 2 ^ 32
   x1-lt : q .x1 < 2 ^ 32
   x2-lt : q .x2 < 2 ^ 32
   x3-lt : q .x3 < 2 ^ 32
 
+-- rounds give words
 words-rounds : (X : Quad) (rks : List ℕ) → Words X → Words (rounds X rks)
 unfolding rounds round F
 words-rounds X [] w = w
@@ -118,15 +122,19 @@ module _ (B : List ℕ) (h : Block B) where
   bytes-four : (i : ℕ) → Bytes (block 4 i B)
   bytes-four i = bytes-take 4 (drop (i * 4) B) (bytes-drop (i * 4) B (h .bytes))
 
+  -- there are four of them
   length-four : (i : ℕ) → i < 4 → length (block 4 i B) ≡ 4
   length-four i b = length-block 4 i B (omega (arith, h .size))
 
+  -- they stand for a word
   word-lt : (i : ℕ) → i < 4 → word B i < 2 ^ 32
   word-lt i b = rw (length-four i b) at (number-lt (block 4 i B) (bytes-four i))
 
+  -- of which they are the bytes
   word-bytes : (i : ℕ) → i < 4 → be 4 (word B i) ≡ block 4 i B
   word-bytes i b = rw (length-four i b) at (be-number (block 4 i B) (bytes-four i))
 
+  -- so a block has four words
   words-block : Words (wordsOf B)
   unfolding wordsOf
   words-block =
@@ -137,6 +145,7 @@ module _ (B : List ℕ) (h : Block B) where
         x3-lt = word-lt 3 (lit< tt);
       }
 
+  -- of which it is the bytes
   bytes-words : bytesOf (wordsOf B) ≡ B
   unfolding wordsOf bytesOf table
   bytes-words =
@@ -150,6 +159,7 @@ pub encrypt-block : (rks B : List ℕ) → Block (encrypt rks B)
 unfolding encrypt
 encrypt-block rks B = block-bytes (R (rounds (wordsOf B) rks))
 
+-- and so does decryption give one
 pub decrypt-block : (rks B : List ℕ) → Block (decrypt rks B)
 unfolding decrypt
 decrypt-block rks B = encrypt-block (reverse rks) B
@@ -188,6 +198,7 @@ pub cipher-decrypt-encrypt : (MK B : List ℕ) → Block B
     → decrypt (cipherOf MK .«round_keys») (encrypt (cipherOf MK .«round_keys») B) ≡ B
 cipher-decrypt-encrypt MK = decrypt-encrypt (cipherOf MK .«round_keys»)
 
+-- and in reverse
 pub cipher-encrypt-decrypt : (MK B : List ℕ) → Block B
     → encrypt (cipherOf MK .«round_keys») (decrypt (cipherOf MK .«round_keys») B) ≡ B
 cipher-encrypt-decrypt MK = encrypt-decrypt (cipherOf MK .«round_keys»)

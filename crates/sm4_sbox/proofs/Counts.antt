@@ -8,9 +8,11 @@ use lib.ListN.{length, getD}
 use Rattle.sm4_sbox.specs.Pass.{Counts}
 use Rattle.sm4_sbox.proofs.Table.{every, at-entry}
 
+-- the number at place k is k
 unfoldable pub own : ℕ → ℕ → Bool
 own k x = eqb x k
 
+-- a table that passes the test counts
 pub counts : (l : List ℕ) → T (every own 0 l) → 256 ≤ length l → Counts l
 unfolding own
 counts l t h = record { place = λ i b. eqb→eq (getD l i 0) i (at-entry own l t i (omega arith)) }

@@ -62,6 +62,7 @@ module _ {keys : RecordKeysCbc} {seq type : ℕ} {version iv text r : List ℕ} 
     is-done : answerOf (length text) (length r) ≡ Done
     is-done = sym answered ∙ done
 
+    -- what the sizes then are
     sizes : (length text ≤ MAX-PLAINTEXT) × (sealedLength (length text) ≤ length r)
     sizes = sealed-done (length text) (length r) is-done
 
@@ -70,6 +71,7 @@ module _ {keys : RecordKeysCbc} {seq type : ℕ} {version iv text r : List ℕ} 
     unfolding reportOf
     length-is = ap (λ (x : Sealed). x .length) (p .result) ∙ rw is-done
 
+    -- the buffer keeps its length
     length-buffer : length r′ ≡ length r
     unfolding sealedOutput
     length-buffer = ap length (p .output) ∙ rw is-done (length-put 0 (sealedRecord keys seq type version iv text) r)

@@ -6,6 +6,7 @@ use Rattle.record.specs.declared.RecordKeysCbc.{RecordKeysCbc}
 use Rattle.opening.specs.declared.Opened.{Opened}
 use Rattle.there_and_back.specs.Promise.{ThereAndBack}
 
+-- `seal_and_open`
 pub ThereAndBack-one-outcome : {keys : RecordKeysCbc} {seq type : ℕ} {version iv text r out : List ℕ} {a b : Opened} {x y u w : List ℕ}
     → ThereAndBack keys seq type version iv text r out a x u → ThereAndBack keys seq type version iv text r out b y w
     → (a ≡ b) × (x ≡ y) × (u ≡ w)

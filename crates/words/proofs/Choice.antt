@@ -36,6 +36,7 @@ unfolding chosen
 chosen-bit true a b = refl
 chosen-bit false a b = refl
 
+-- by a number that is one
 pub chosen-by : {x : ℕ} (t : Bool) (a b : ℕ) → x ≡ bit t → chosen x a b ≡ cond t b a
 chosen-by t a b e = rw e (chosen-bit t a b)
 

@@ -63,9 +63,11 @@ Lent 𝓤 H A mem run = tripleOf 𝓤 H A lent.signature (lent.spec 𝓤 H A mem
 -- offset o of block b, under the ghost name γ
 module _ {M : Type 1} (𝓤 : URA M) (H : Heap 𝓤) (A : Atoms 𝓤) (W : Given 𝓤 H A) (at-mem : Memory → SProp 𝓤) (run : Routine → Fun 𝓤)
     (κ κ′ : Lft) (q q′ : Share) (b o : ℕ) (γ : GName) (h : Sm3) (d : RefT (List ℕ)) where
+  -- the reference to the state
   abbrev x : RefT Sm3
   x = record { ptr = (b, o); name = γ; now = h }
 
+  -- the arguments
   abbrev a : RefT Sm3 × (RefT (List ℕ) × Unit {0})
   a = (x, (d, tt))
 
@@ -73,6 +75,7 @@ module _ {M : Type 1} (𝓤 : URA M) (H : Heap 𝓤) (A : Atoms 𝓤) (W : Given
   abbrev v : Val
   v = sliceVal (d .ptr) (length (d .now))
 
+  -- their machine values
   abbrev vals : List Val × (List Val × Unit {0})
   vals = (vptr b o ∷ [], (v ∷ [], tt))
 
@@ -80,6 +83,7 @@ module _ {M : Type 1} (𝓤 : URA M) (H : Heap 𝓤) (A : Atoms 𝓤) (W : Given
   abbrev Own : Fml
   Own = ShrRef (named 0) κ State .own x (vptr b o ∷ [])
 
+  -- what the digest owns
   abbrev Out : Fml
   Out = MutSlice (named 1) κ′ u8 .own d (v ∷ [])
 

@@ -55,9 +55,11 @@ Lent 𝓤 H A mem run = tripleOf 𝓤 H A lent.signature (lent.spec 𝓤 H A mem
 -- is the ghost name under which its last value is known
 module _ {M : Type 1} (𝓤 : URA M) (H : Heap 𝓤) (A : Atoms 𝓤) (W : Given 𝓤 H A) (at-mem : Memory → SProp 𝓤) (run : Routine → Fun 𝓤)
     (κ : Lft) (q : Share) (b o : ℕ) (γ : GName) (h : Sm3) where
+  -- the argument
   abbrev a : RefT Sm3 × Unit {0}
   a = (record { ptr = (b, o); name = γ; now = h }, tt)
 
+  -- its machine value
   abbrev vals : List Val × Unit {0}
   vals = (vptr b o ∷ [], tt)
 
@@ -69,6 +71,7 @@ module _ {M : Type 1} (𝓤 : URA M) (H : Heap 𝓤) (A : Atoms 𝓤) (W : Given
   abbrev to : Lent 𝓤 H A at-mem run .Ghost
   to = (((κ, tt), (q, tt), tt, a, vals), tt)
 
+  -- what was passed is what it asks for
   goes : ent 𝓤 (onEntry 𝓤 H A own.signature (κ, tt) (q, tt) a vals) (Lent 𝓤 H A at-mem run .pre to)
   goes = qed W ((‵ (flft κ q) ⊛ ‵ ftrue) ∷ ‵ (owns (MutRef (named 0) κ State ∷ []) a vals) ∷ []) ∵ join ! $ frame ! $ done !
 

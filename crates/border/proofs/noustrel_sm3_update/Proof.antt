@@ -58,9 +58,11 @@ stayed = (gave-ref (0 ∷ []) tt (plain (λ _. State)), (stay-none-slice (1 ∷ 
 -- offset o of block b, and γ is the ghost name under which its last value is known
 module _ {M : Type 1} (𝓤 : URA M) (H : Heap 𝓤) (A : Atoms 𝓤) (W : Given 𝓤 H A) (at-mem : Memory → SProp 𝓤) (run : Routine → Fun 𝓤)
     (κ κ′ : Lft) (q q′ : Share) (b o : ℕ) (γ : GName) (h : Sm3) (d : RefT (List ℕ)) where
+  -- the reference to the state
   abbrev x : RefT Sm3
   x = record { ptr = (b, o); name = γ; now = h }
 
+  -- the arguments
   abbrev a : RefT Sm3 × (RefT (List ℕ) × Unit {0})
   a = (x, (d, tt))
 
@@ -68,6 +70,7 @@ module _ {M : Type 1} (𝓤 : URA M) (H : Heap 𝓤) (A : Atoms 𝓤) (W : Given
   abbrev v : Val
   v = sliceVal (d .ptr) (length (d .now))
 
+  -- their machine values
   abbrev vals : List Val × (List Val × Unit {0})
   vals = (vptr b o ∷ [], (v ∷ [], tt))
 
@@ -75,6 +78,7 @@ module _ {M : Type 1} (𝓤 : URA M) (H : Heap 𝓤) (A : Atoms 𝓤) (W : Given
   abbrev Ref : Fml
   Ref = MutRef (named 0) κ State .own x (vptr b o ∷ [])
 
+  -- what the data owns
   abbrev Own : Fml
   Own = ShrSlice (named 1) κ′ u8 .own d (v ∷ [])
 

@@ -24,6 +24,7 @@ use Rattle.key_schedule.proofs.+p_sm3.Lts-p_sm3 as p-sm3-lts
 use Rattle.key_schedule.proofs.+p_sm3.{statement}
 use Rattle.key_schedule.proofs.+p_sm3.Tie.{close}
 
+-- how many blocks the output takes
 abbrev μ-p-sm3 : Measures 5 p-sm3-kinds.ps ℕ
 μ-p-sm3 κs a = blocks (length (a .1 .1 .1 .1 .1 .0 .now))
 
@@ -41,6 +42,7 @@ claims t =
 
 -- seen from behind the copy: the arguments, the output as found and as the copy left it
 module _ (t : ℕ) (c : p-sm3-lts.After-slice-known2 (claims t) (p-sm3-at t) p-sm3.Post) where
+  -- the entry
   abbrev start : p-sm3-lts.Start (claims t) (p-sm3-at t) p-sm3.Post
   start = c .before .before .before .before .before .before .before .before .before .before .before .before
 
@@ -56,6 +58,7 @@ module _ (t : ℕ) (c : p-sm3-lts.After-slice-known2 (claims t) (p-sm3-at t) p-s
   abbrev left : List ℕ
   left = c .before .before .copy-at .last .0
 
+  -- the copy laid the block over what was found
   laid : left ≡ put 0 (HMAC SM3 secret (start .args .t2 ++ seed)) found
   laid =
       c .before .before .copy-at .ensures .output

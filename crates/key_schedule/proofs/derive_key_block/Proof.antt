@@ -32,9 +32,11 @@ module _ (c : tie.Else2) where
   abbrev s : tie.Start
   s = c .before .before .before .before .before .before .before
 
+  -- the inputs have their lengths
   inputs : inputsRight (s .args .master-secret .now) (s .args .client-random .now) (s .args .server-random .now) ≡ true
   inputs = sym (c .before .before .inputs-right .ensures) ∙ not-false (c .before .before .inputs-right .result) (c .before .if1 .left)
 
+  -- so the definition's test holds
   right : keyBlockSizes (s .args .master-secret .now) (s .args .client-random .now) (s .args .server-random .now) (s .args .out .now) ≡ true
   unfolding keyBlockSizes
   right = rw inputs (le-leb (length (s .args .out .now)) MAX-KEY-BLOCK (ltb-false MAX-KEY-BLOCK (length (s .args .out .now)) (c .if2 .left)))

@@ -33,12 +33,15 @@ module _ (c : tie.Else2) where
   abbrev s : tie.Start
   s = c .before .before .before .before .before .before .before
 
+  -- the inputs have their lengths
   inputs : inputsRight (s .args .pre-master .now) (s .args .client-random .now) (s .args .server-random .now) ≡ true
   inputs = sym (c .before .before .inputs-right .ensures) ∙ not-false (c .before .before .inputs-right .result) (c .before .if1 .left)
 
+  -- and so has the output
   room : length (s .args .out .now) ≡ MASTER-SECRET-LEN
   room = eqb-true (length (s .args .out .now)) MASTER-SECRET-LEN (not-false (eqb (length (s .args .out .now)) MASTER-SECRET-LEN) (c .if2 .left))
 
+  -- so the definition's test holds
   right : masterSecretSizes (s .args .pre-master .now) (s .args .client-random .now) (s .args .server-random .now) (s .args .out .now) ≡ true
   unfolding masterSecretSizes
   right = rw inputs (not-false (eqb (length (s .args .out .now)) MASTER-SECRET-LEN) (c .if2 .left))

@@ -40,6 +40,7 @@ module _ (c : tie.Else3) where
   abbrev s : tie.Start
   s = c .before .before .before .before .before .before
 
+  -- each length is its own
   lengths : (length (s .args .master-secret .now) ≡ MASTER-SECRET-LEN)
       × (length (s .args .transcript-hash .now) ≡ RANDOM-LEN)
       × (length (s .args .out .now) ≡ FINISHED-VERIFY-DATA-LEN)
@@ -51,6 +52,7 @@ module _ (c : tie.Else3) where
         eqb-true o FINISHED-VERIFY-DATA-LEN (not-false (eqb o FINISHED-VERIFY-DATA-LEN) (c .if3 .left)),
       )
 
+  -- so the definition's test holds
   right : finishedSizes (s .args .master-secret .now) (s .args .transcript-hash .now) (s .args .out .now) ≡ true
   unfolding finishedSizes
   right =
@@ -60,6 +62,7 @@ module _ (c : tie.Else3) where
         eq-eqb (length (s .args .out .now)) FINISHED-VERIFY-DATA-LEN (lengths .2),
       )
 
+  -- what the PRF is given is small
   small : (label : List ℕ) → length label ≤ 64 → Small (s .args .master-secret .now) label (s .args .transcript-hash .now) []
   small label h =
       let n = lengths in

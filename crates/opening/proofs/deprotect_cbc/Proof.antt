@@ -30,6 +30,7 @@ module _ (c : tie.At-loop Inv-loop μ-loop) where
   abbrev start : tie.Start Inv-loop μ-loop
   start = c .before .before .before .before
 
+  -- what the opening is given
   abbrev g : Given
   g =
       record {
@@ -40,9 +41,11 @@ module _ (c : tie.At-loop Inv-loop μ-loop) where
         r = start .args .«record» .now;
       }
 
+  -- a version is two bytes, by its type
   version-length : length (start .args .version) ≡ 2
   version-length = search needs
 
+  -- so the invariant is that of the run
   run : Run g (start .args .out .now) (c .before .start-cbc .result .opening .total) (c .loop .s) (c .loop .out) (c .loop .k)
   run = c .loop .inv (start .args .keys) (start .args .version) version-length (c .before .start-cbc .ensures)
 

@@ -31,6 +31,7 @@ unfolding lastByte
 differences-requires c κs = refl
 
 module _ (c : tie.After-select-usize) where
+  -- the body
   abbrev d : List ℕ
   d = c .before .before .before .before .before .before .before .args .body .now
 

@@ -1,6 +1,6 @@
 -- `protocol::number` meets its contract. The loop's invariant: the number is the value with the digits from i on behind it; the
 -- measure is what is left. Assumes nothing.
-use mathlib.Core.Path.{_≡_, refl, sym, ap, _∙_}
+use mathlib.Core.Path.{_≡_, sym, ap, _∙_}
 use Prim.Native.Nat.{_-_, _≤_}
 use native.Mathlib.Omega.{arith}
 use borrow.Author.Needs.{needs}

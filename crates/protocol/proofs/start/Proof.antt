@@ -3,8 +3,6 @@
 use mathlib.Core.Path.{_≡_, refl, sym, ap, _∙_}
 use Prim.Native.Nat.{ℕ, _-_, _≤_}
 use native.Mathlib.Omega.{arith}
-use borrow.Author.Needs.{needs}
-use lib.ListN.{length}
 use Rattle.protocol.specs.Fields.{nextOf, startOf}
 use Rattle.protocol.proofs.Fields.{start-fits, start-next}
 use Rattle.protocol.proofs.start.Statement.{statement}

@@ -1,5 +1,4 @@
 -- `protocol::with_digit` meets its contract: its tests decide those of the definition. Assumes nothing.
-use mathlib.Core.Path.{refl}
 use native.Mathlib.Omega.{arith}
 use borrow.Author.Needs.{needs}
 use borrow.Author.Tests.{le-leb, lt-leb, lt-ltb, le-ltb}

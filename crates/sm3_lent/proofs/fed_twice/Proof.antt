@@ -64,6 +64,7 @@ stayed = (stay-none-slice (0 ∷ []) tt (plain (λ _. u8)) yes, (stay-none-slice
 -- κ₁, q₁: the lifetime of the first part d₁ and a share of its token; κ₂, q₂: of the second, d₂
 module _ {M : Type 1} (𝓤 : URA M) (H : Heap 𝓤) (A : Atoms 𝓤) (W : Given 𝓤 H A) (at-mem : Memory → SProp 𝓤) (run : Routine → Fun 𝓤)
     (κ₁ κ₂ : Lft) (q₁ q₂ : Share) (d₁ d₂ : RefT (List ℕ)) where
+  -- the arguments
   abbrev a : RefT (List ℕ) × (RefT (List ℕ) × Unit {0})
   a = (d₁, (d₂, tt))
 
@@ -74,6 +75,7 @@ module _ {M : Type 1} (𝓤 : URA M) (H : Heap 𝓤) (A : Atoms 𝓤) (W : Given
   abbrev v₂ : Val
   v₂ = sliceVal (d₂ .ptr) (length (d₂ .now))
 
+  -- the arguments as machine values
   abbrev vals : List Val × (List Val × Unit {0})
   vals = (v₁ ∷ [], (v₂ ∷ [], tt))
 

@@ -57,9 +57,11 @@ stayed = (stay-ref (0 ∷ []) tt (plain (λ _. State)), tt)
 -- is the ghost name under which its last value is known
 module _ {M : Type 1} (𝓤 : URA M) (H : Heap 𝓤) (A : Atoms 𝓤) (W : Given 𝓤 H A) (at-mem : Memory → SProp 𝓤) (run : Routine → Fun 𝓤)
     (κ : Lft) (q : Share) (b o : ℕ) (γ : GName) (h : Sm3) where
+  -- the argument
   abbrev a : RefT Sm3 × Unit {0}
   a = (record { ptr = (b, o); name = γ; now = h }, tt)
 
+  -- its machine value
   abbrev vals : List Val × Unit {0}
   vals = (vptr b o ∷ [], tt)
 

@@ -4,7 +4,6 @@ use mathlib.Core.List.{_++_}
 use mathlib.Core.Path.{_≡_, refl, sym, ap, _∙_}
 use Prim.Native.Nat.{_+_, _-_, _≤_}
 use native.Mathlib.Omega.{arith}
-use borrow.Author.Needs.{needs}
 use lib.ListN.{length, take, set, length-set}
 use Rattle.sm4.specs.declared.Quad.{Quad}
 use Rattle.sm4.specs.Standard.{keyRound, keysFrom}

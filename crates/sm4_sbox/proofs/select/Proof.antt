@@ -1,6 +1,6 @@
 -- `sm4_sbox::select` meets its contract. The loop's invariant: r is the entry at x of the first i; the measure is what is
 -- left of 256. Assumes nothing.
-use Prim.Native.Nat.{_+_, _-_, _≤_, _<_}
+use Prim.Native.Nat.{_+_, _-_, _≤_}
 use native.Mathlib.Omega.{arith}
 use borrow.Author.Needs.{needs}
 use Rattle.sm4_sbox.proofs.Pass.{Passed, pass-none, pass-turn, pass-all}

@@ -1,5 +1,5 @@
 -- `step_vectors::run` is safe and ends. The loop's measure is what is left of the steps. Assumes nothing.
-use Prim.Native.Nat.{_-_, _≤_}
+use Prim.Native.Nat.{_-_}
 use mathlib.Core.Path.{_≡_}
 use borrow.Author.Needs.{needs}
 use lib.ListN.{length}

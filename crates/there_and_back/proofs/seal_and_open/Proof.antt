@@ -13,9 +13,11 @@ module _ (c : tie.After-protect-cbc) where
   abbrev start : tie.Start
   start = c .before .before .before .before .before
 
+  -- the text is bytes, by its type
   bytes-text : Bytes (start .args .plaintext .now)
   bytes-text i = c .before .before .before .before .shared-slice-known .given i .fits
 
+  -- the IV is a block, by its type
   block-iv : Block (start .args .iv)
   block-iv = record { size = search needs; bytes = array-bytes 16 (start .args .iv) _ (start .good .1 .1 .1 .1 .0) }
 
