@@ -18,7 +18,7 @@ use Rattle.sm4_sbox.specs.Standard.{Sbox}
 use Rattle.sm4_sbox.proofs.Once.{Sbox-byte}
 use Rattle.sm4.specs.Block.{Block}
 use Rattle.sm4.specs.declared.Quad.{Quad}
-use Rattle.sm4.specs.Standard.{tau, L, T, F, word, wordsOf, bytesOf, round, rounds, R, encrypt, decrypt, keysFrom, roundKeys, cipherOf}
+use Rattle.sm4.specs.Standard.{tau, L, T, F, word, wordsOf, bytesOf, round, rounds, R, encrypt, decrypt, cipherOf}
 
 -- ---- the rounds
 
@@ -182,16 +182,6 @@ encrypt-decrypt rks B h =
     ap (λ (ks : List ℕ). encrypt ks (encrypt (reverse rks) B)) (sym (reverse-reverse rks)) ∙ decrypt-encrypt (reverse rks) B h
 
 -- ---- under a key
-
--- there are 32 round keys
-length-keysFrom : (K : Quad) (i n : ℕ) → length (keysFrom K i n) ≡ n
-unfolding keysFrom
-length-keysFrom K i zero = refl
-length-keysFrom K i (suc n) = ap suc (length-keysFrom _ (suc i) n)
-
-pub length-roundKeys : (MK : List ℕ) → length (roundKeys MK) ≡ 32
-unfolding roundKeys
-length-roundKeys MK = length-keysFrom _ 0 32
 
 -- the cipher of a key decrypts what it encrypts, and in reverse
 pub cipher-decrypt-encrypt : (MK B : List ℕ) → Block B

@@ -263,21 +263,21 @@ fn crypt(block: [u8; 16], rk: [u32; 32], reverse: bool, t: &[u8; 256], n: &[u8; 
 
 impl Sm4Cipher {
     // The cipher under a key, by the key expansion.
-    pub fn new(key: [u8; 16]) -> Sm4Cipher
+    pub fn new(key: [u8; KEY_SIZE]) -> Sm4Cipher
         ensures { λ r. ⌜ r ≡ cipherOf key ⌝ }
     {
         let round_keys = expand(key_start(key), &CK, &S_BOX, &COUNT);
         Sm4Cipher { round_keys }
     }
 
-    pub fn encrypt_block(self, block: [u8; 16]) -> [u8; 16]
+    pub fn encrypt_block(self, block: [u8; BLOCK_SIZE]) -> [u8; BLOCK_SIZE]
         ensures { λ r. ⌜ r ≡ encrypt (self .«round_keys») block ⌝ }
     {
         let rk = self.round_keys;
         crypt(block, rk, false, &S_BOX, &COUNT)
     }
 
-    pub fn decrypt_block(self, block: [u8; 16]) -> [u8; 16]
+    pub fn decrypt_block(self, block: [u8; BLOCK_SIZE]) -> [u8; BLOCK_SIZE]
         ensures { λ r. ⌜ r ≡ decrypt (self .«round_keys») block ⌝ }
     {
         let rk = self.round_keys;

@@ -1,4 +1,5 @@
--- `border::noustrel_master_secret` meets its contract: it is `derive_master_secret`, whose answer is as many as it was. Assumes nothing.
+-- `border::noustrel_master_secret` meets its contract: it is `derive_master_secret`, and the answer is the same number in 32 bits.
+-- Assumes nothing.
 use borrow.Author.Needs.{needs}
 use Rattle.border.specs.Border.{answerFor}
 use Rattle.border.proofs.noustrel_master_secret.Statement.{statement}
