@@ -13,7 +13,7 @@ use Rattle.steps.proofs.work_step.Statement.{statement}
 use Rattle.steps.proofs.work_step.Tie as tie
 
 module _ (c : tie.After-mac-steps) where
-  -- the opening's ranges, a step left, and where the hashing ends
+  -- the opening is within its ranges
   ok : Sound (c .before .before .before .args .opening) (length (c .before .before .before .args .«record» .now)) (length (c .before .before .before .args .out .now))
   ok = sound _ _ _ (c .before .before .before .pre .0)
 
