@@ -1,10 +1,10 @@
 -- `sm3_compress::early_rounds` meets its contract. The loop's invariant: v is the state behind the first 4 i of these rounds; the
 -- measure is what is left of 4 turns. Assumes nothing.
 use mathlib.Core.Path.{_≡_, refl}
-use Prim.Native.Nat.{_+_, _*_, _-_, _≤_}
+use Prim.Native.Nat.{_*_, _-_, _≤_}
 use native.Mathlib.Omega.{arith}
 use Rattle.sm3_compress.specs.Rounds.{roundsFrom}
-use Rattle.sm3_compress.proofs.Rounds.{round-more}
+use Rattle.sm3_compress.proofs.Rounds.{four-more}
 use Rattle.sm3_compress.proofs.early_rounds.Statement.{statement}
 use Rattle.sm3_compress.proofs.early_rounds.Tie as tie
 
@@ -24,12 +24,9 @@ loop-again c =
     let r2 = r3 .before in
     let r1 = r2 .before in
     let l = r1 .before .before .loop in
-    let n = l .i * 4 in
-    let v1 = round-more _ _ _ _ _ 0 n (n + 1) _ (omega arith) (omega arith) (l .inv .1) (r1 .round-at .ensures) in
-    let v2 = round-more _ _ _ _ _ 0 (n + 1) (n + 2) _ (omega arith) (omega arith) v1 (r2 .round-at2 .ensures) in
-    let v3 = round-more _ _ _ _ _ 0 (n + 2) (n + 3) _ (omega arith) (omega arith) v2 (r3 .round-at3 .ensures) in
-    let v4 = round-more _ _ _ _ _ 0 (n + 3) ((l .i + 1) * 4) _ (omega arith) (omega arith) v3 (c .round-at4 .ensures) in
-    (omega arith, v4)
+    let turn = four-more _ _ _ _ _ _ _ _ 0 (l .i) _ (omega arith) (l .inv .1) (r1 .round-at .ensures) (r2 .round-at2 .ensures)
+    (r3 .round-at3 .ensures) (c .round-at4 .ensures) in
+    (omega arith, turn)
 
 returns : tie.Need-returns Inv-loop μ-loop
 returns c =
