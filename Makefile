@@ -32,6 +32,7 @@ test:
 	@kit="$$(rt version)"; [ "$$kit" = "$(KIT)" ] || echo "warning: this is '$$kit'; '$(KIT)' was used" >&2
 	tools/statements_test
 	tools/statements
+	tools/calls_test
 	tools/calls --check
 	tools/promises
 	tools/header_check

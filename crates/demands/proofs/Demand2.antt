@@ -1,11 +1,11 @@
--- Demand 2 for records: the stated record, the round trip and exact acceptance hold of our sealer and our opener. A body is accepted
--- exactly if it is a text, its MAC and padding, and a sealed record deciphers to one. Assumes nothing.
-use mathlib.Core.Bool.{Bool, true, false, cond}
+-- Demand 2 for records: the stated record, the refusals, the round trip and exact acceptance hold of our sealer and our opener. A body
+-- is accepted exactly if it is a text, its MAC and padding, and a sealed record deciphers to one. Assumes nothing.
+use mathlib.Core.Bool.{Bool, true, false, cond, false≢true}
 use mathlib.Core.List.{List, append-assoc}
 use mathlib.Core.Path.{_≡_, refl, sym, ap, _∙_}
 use Prim.Native.Nat.{ℕ, _+_, _-_, _*_, _/_, _%_, _≤_}
 use native.Mathlib.Omega.{arith}
-use borrow.Author.Tests.{le-ltb, eq-eqb}
+use borrow.Author.Tests.{ne-eqb}
 use lib.ListN.{length, take, drop, replicate, length-drop}
 use lib.Seq.{take-at, length-take-le}
 use Rattle.answers.specs.Answers.{Done, BadRecord}
@@ -26,20 +26,27 @@ use Rattle.record.specs.Standard.{bodyOf, padOf, sealedBy, sealedRecord, sealed
 use Rattle.record.proofs.Accepts.{accepted-is-body, accepts-body, held-body, text-body, body-unique}
 use Rattle.record.proofs.Answers.{answer-done}
 use Rattle.record.proofs.Records.{length-tag, length-sealedRecord, opened-sealedRecord}
-use Rattle.sizes.specs.Sizes.{sizeAnswer, totalSteps}
-use Rattle.steps.specs.State.{startAnswer}
-use Rattle.steps.proofs.Sound.{start-passed}
+use Rattle.sizes.specs.Sizes.{totalSteps}
 use Rattle.opening.specs.declared.Opened.{Opened}
 use Rattle.opening.specs.Deprotected.{bodyAfter, deprotected, outputOf}
 use Rattle.opening.specs.Given.{Given, size, decrypted, tagIn, accepted, answerIn, lengthIn}
-use Rattle.demands.specs.Openers.{ourSealer, ourOpener, laid, StatedRecord, RoundTrip, IsBody, ExactAcceptance}
+use Rattle.demands.specs.Checks.{Openable}
+use Rattle.demands.specs.Openers.{ourSealer, ourOpener, laid, blank, StatedRecord, SealRefusals, RoundTrip, IsBody, Exact, ExactAcceptance, OpenRefusals, Demand2, CallsAlike}
+use Rattle.demands.proofs.Checks.{passes-checks, not-sealed, not-sealed-answer}
+use Rattle.demands.proofs.Demand3.{zeros-in-front}
+use Rattle.demands.proofs.OneCall.{refused}
 
 -- ---- sealing
 
 -- what is written is the record, and the report says so
 pub stated-record : StatedRecord ourSealer
 unfolding StatedRecord reportOf sealedOutput
-stated-record keys seq type version iv text out short room = rw (answer-done (length text) (length out) short room)
+stated-record keys seq type version iv text out h = rw (answer-done (length text) (length out) (h .most) (h .fits))
+
+-- a text that is not sealed is answered by its number, and nothing is written
+pub seal-refusals : SealRefusals ourSealer
+unfolding SealRefusals reportOf sealedOutput
+seal-refusals keys seq type version iv text out answer n = rw (not-sealed n, ne-eqb answer Done (not-sealed-answer n))
 
 -- ---- opening a body
 
@@ -47,14 +54,14 @@ stated-record keys seq type version iv text out short room = rw (answer-done (le
 length-tagIn : (g : Given) (text : List ℕ) → length (tagIn g text) ≡ 32
 length-tagIn g = length-tag (g .keys .«mac_key») (g .seq) (g .type) (g .version)
 
-module _ (g : Given) (o : List ℕ) (checks : startAnswer (length (g .r)) (length o) ≡ Done) where
+module _ (g : Given) (o : List ℕ) (checks : Openable (length (g .r)) (length o)) where
   -- a decryption that is a text, its MAC and padding: that text is handed out
   pub opens-body : (text : List ℕ) (p : ℕ) → decrypted g ≡ bodyOf (tagIn g) text p
       → ourOpener g o ≡ (record { answer = Done; length = length text; count = totalSteps (size g) }, laid text (size g) o)
   unfolding deprotected outputOf bodyAfter accepted answerIn lengthIn
   opens-body text p e =
       rw (
-        checks,
+        passes-checks checks,
         e,
         accepts-body (tagIn g) (length-tagIn g) text p,
         held-body (tagIn g) (length-tagIn g) text p,
@@ -66,18 +73,11 @@ module _ (g : Given) (o : List ℕ) (checks : startAnswer (length (g .r)) (lengt
 
 -- ---- the round trip
 
--- a text up to the most is sealed to a record that is not refused for its size
-pub sealed-size : (L : ℕ) → L ≤ MAX-PLAINTEXT → sizeAnswer (sealedLength L) ≡ Done
-unfolding sizeAnswer sealedLength
-sealed-size L short =
-    let r = 16 * (L / 16 + 4) in
-    let whole : (r - 16) % 16 ≡ 0 = omega arith in
-    rw (le-ltb r 64 (omega arith), eq-eqb ((r - 16) % 16) 0 whole, le-ltb 16432 (r - 16) (omega arith))
-
--- and that passes the checks where there is room for its body
-sealed-passes : (L room : ℕ) → L ≤ MAX-PLAINTEXT → sealedLength L - IV-LEN ≤ room → startAnswer (sealedLength L) room ≡ Done
-unfolding startAnswer
-sealed-passes L room short enough = rw (sealed-size L short, le-ltb room (sealedLength L - 16) enough)
+-- a text up to the most is sealed to a record that passes the checks where there is room for its body
+pub sealed-passes : (L room : ℕ) → L ≤ MAX-PLAINTEXT → sealedLength L - IV-LEN ≤ room → Openable (sealedLength L) room
+unfolding sealedLength
+sealed-passes L room short enough =
+    record { least = omega arith; whole = omega arith; most = omega arith; fits = enough }
 
 module _ (keys : RecordKeysCbc) (seq type : ℕ) (version iv text : List ℕ) where
   -- what an opening is given that has the sealed record
@@ -95,7 +95,7 @@ module _ (keys : RecordKeysCbc) (seq type : ℕ) (version iv text : List ℕ) wh
 
   module _ (hiv : Block iv) (short : length text ≤ MAX-PLAINTEXT) (o : List ℕ) (enough : sealedLength (length text) - IV-LEN ≤ length o) where
     -- it passes the checks
-    pub sealed-checks : startAnswer (length (sealedGiven .r)) (length o) ≡ Done
+    pub sealed-checks : Openable (length (sealedGiven .r)) (length o)
     sealed-checks =
         rw (length-sealedRecord keys seq type version iv text (hiv .size)) (sealed-passes (length text) (length o) short enough)
 
@@ -111,46 +111,131 @@ module _ (keys : RecordKeysCbc) (seq type : ℕ) (version iv text : List ℕ) wh
 -- a sealed record, cut out of the buffer that it was sealed into, opens to the text
 pub round-trip : RoundTrip ourSealer ourOpener
 unfolding RoundTrip reportOf sealedOutput
-round-trip keys seq type version iv text out o bytes hiv short room enough =
+round-trip keys seq type version iv text out o bytes hiv h enough =
     let whole = sealedRecord keys seq type version iv text in
     let n : length whole ≡ sealedLength (length text) = length-sealedRecord keys seq type version iv text (hiv .size) in
     let cut : take (sealedLength (length text)) (put 0 whole out) ≡ whole =
     ap (λ (k : ℕ). take k (put 0 whole out)) (sym n) ∙ part-put 0 whole out (omega arith) in
-    rw (answer-done (length text) (length out) short room, cut) (opens-sealed keys seq type version iv text hiv short o enough bytes)
+    rw (answer-done (length text) (length out) (h .most) (h .fits), cut)
+    (opens-sealed keys seq type version iv text hiv (h .most) o enough bytes)
 
 -- ---- exact acceptance
 
 -- a record of bytes that passes the checks deciphers to bytes
-bytes-decrypted : (g : Given) (room : ℕ) → Bytes (g .r) → startAnswer (length (g .r)) room ≡ Done → Bytes (decrypted g)
+bytes-decrypted : (g : Given) (room : ℕ) → Bytes (g .r) → Openable (length (g .r)) room → Bytes (decrypted g)
 unfolding decrypted
 bytes-decrypted g room bytes checks =
     let rks = roundKeys (g .keys .«enc_key») in
-    let a = start-passed (length (g .r)) room checks in
     bytes-cbcDec (encrypt rks) (decrypt rks) (deciphers rks) (take 16 (g .r)) (drop 16 (g .r))
-    (record { size = length-take-le 16 (g .r) (omega (arith, a .0)); bytes = bytes-take 16 (g .r) bytes })
+    (record { size = length-take-le 16 (g .r) (omega arith); bytes = bytes-take 16 (g .r) bytes })
     (bytes-drop 16 (g .r) bytes)
-    (rw (length-drop 16 (g .r)) (a .1 .whole))
+    (rw (length-drop 16 (g .r)) (checks .whole))
 
--- answer 6 exactly where the decryption is no body; a body is accepted, and its text and padding are the only ones
-pub exact-acceptance : ExactAcceptance ourOpener
-unfolding ExactAcceptance deprotected answerIn accepted
-exact-acceptance g o bytes checks =
-    record {
-      refused = (done, λ none. rw checks (six none));
-      accepted = λ text p b. opens-body g o checks text p (b .body);
-      unique = λ text text′ p p′ b b′. body-unique (tagIn g) (length-tagIn g) text text′ p p′ (sym (b .body) ∙ b′ .body);
-    }
-  where
-    -- a body is answered 0
-    done : ourOpener g o .0 .answer ≡ BadRecord → (text : List ℕ) (p : ℕ) → IsBody g text p → ⊥
-    done e text p b = omega (arith, ap (λ (x : Opened × List ℕ). x .0 .answer) (opens-body g o checks text p (b .body)))
+module _ (g : Given) (o : List ℕ) (checks : Openable (length (g .r)) (length o)) where
+  -- what is not accepted is answered 6, and its place cleared
+  pub refuses : accepted g ≡ false
+      → ourOpener g o ≡ (record { answer = BadRecord; length = 0; count = totalSteps (size g) }, blank (size g) o)
+  unfolding deprotected outputOf bodyAfter answerIn lengthIn
+  refuses e = rw (passes-checks checks, e)
 
-    -- what is accepted is a body
-    six : ((text : List ℕ) (p : ℕ) → IsBody g text p → ⊥) → cond (accepts (tagIn g) (decrypted g)) Done BadRecord ≡ BadRecord
-    six none = by (accepts (tagIn g) (decrypted g)) refl
+  module _ (bytes : Bytes (g .r)) where
+    -- a record is refused, or its decryption is a body
+    pub data Verdict : Type 0 where
+      no-body : accepted g ≡ false → ((text : List ℕ) (p : ℕ) → IsBody g text p → ⊥) → Verdict
+      a-body : (text : List ℕ) (p : ℕ) → IsBody g text p → Verdict
+
+    -- by the test of the definition
+    pub verdict : Verdict
+    unfolding accepted
+    verdict = by (accepts (tagIn g) (decrypted g)) refl
       where
-        by : (t : Bool) → accepts (tagIn g) (decrypted g) ≡ t → cond t Done BadRecord ≡ BadRecord
+        by : (t : Bool) → accepts (tagIn g) (decrypted g) ≡ t → Verdict
         by true e =
             let a = accepted-is-body (tagIn g) (decrypted g) (bytes-decrypted g (length o) bytes checks) e in
-            absurd (none (a .0) (a .1) (record { padding = a .2; body = a .3 }))
-        by false e = refl
+            Verdict.a-body (a .0) (a .1) (record { padding = a .2; body = a .3 })
+        by false e =
+            Verdict.no-body e
+            (λ text p b. false≢true (sym e ∙ ap (accepts (tagIn g)) (b .body) ∙ accepts-body (tagIn g) (length-tagIn g) text p))
+
+-- answer 6 exactly where the decryption is no body, and then nothing is left of it; a body is accepted, and its text and padding are
+-- the only ones
+pub exact-acceptance : ExactAcceptance ourOpener
+unfolding ExactAcceptance
+exact-acceptance g o bytes checks = by (verdict g o checks bytes)
+  where
+    same : (text text′ : List ℕ) (p p′ : ℕ) → IsBody g text p → IsBody g text′ p′ → (text ≡ text′) × (p ≡ p′)
+    same text text′ p p′ b b′ = body-unique (tagIn g) (length-tagIn g) text text′ p p′ (sym (b .body) ∙ b′ .body)
+
+    handed : (text : List ℕ) (p : ℕ) → IsBody g text p
+        → ourOpener g o ≡ (record { answer = Done; length = length text; count = totalSteps (size g) }, laid text (size g) o)
+    handed text p b = opens-body g o checks text p (b .body)
+
+    by : Verdict g o checks bytes → Exact g o (ourOpener g o)
+    by (Verdict.no-body e none) =
+        let six = refuses g o checks e in
+        let answer = ap (λ (y : Opened × List ℕ). y .0 .answer) six in
+        record {
+          refused = (λ _. none, λ _. answer);
+          cleared = λ _. six;
+          accepted = (λ done. absurd (omega (arith, done, answer)), λ body. absurd (none (body .0) (body .1) (body .2)));
+          handed-out = handed;
+          unique = same;
+        }
+    by (Verdict.a-body text p b) =
+        let answer = ap (λ (y : Opened × List ℕ). y .0 .answer) (handed text p b) in
+        record {
+          refused = (λ six. absurd (omega (arith, six, answer)), λ none. absurd (none text p b));
+          cleared = λ six. absurd (omega (arith, six, answer));
+          accepted = (λ _. (text, p, b), λ _. answer);
+          handed-out = handed;
+          unique = same;
+        }
+
+-- what does not pass the checks is answered by its number, and nothing is written
+pub open-refusals : OpenRefusals ourOpener
+unfolding OpenRefusals
+open-refusals = refused
+
+-- DEMAND 2 for records
+pub demand-2 : Demand2 ourSealer ourOpener
+demand-2 =
+    record {
+      stated-record = stated-record;
+      seal-refusals = seal-refusals;
+      round-trip = round-trip;
+      exact-acceptance = exact-acceptance;
+      open-refusals = open-refusals;
+    }
+
+-- ---- demand 3 for one call
+
+-- the count of every record that passes the checks is T
+count-is-T : (g : Given) (o : List ℕ) → Openable (length (g .r)) (length o) → ourOpener g o .0 .count ≡ totalSteps (size g)
+unfolding deprotected
+count-is-T g o checks = rw (passes-checks checks)
+
+-- a record that is not answered 0 is not accepted
+not-done : (g : Given) (o : List ℕ) → Openable (length (g .r)) (length o) → (ourOpener g o .0 .answer ≡ Done → ⊥) → accepted g ≡ false
+unfolding deprotected answerIn
+not-done g o checks h = by (accepted g) (rw (passes-checks checks) at h)
+  where
+    by : (t : Bool) → (cond t Done BadRecord ≡ Done → ⊥) → t ≡ false
+    by true h = absurd (h refl)
+    by false h = refl
+
+-- so two refusals have the sizes in common
+pub calls-alike : CallsAlike ourOpener
+unfolding size
+calls-alike =
+    record {
+      count = count-is-T;
+      alike = λ g h o q same c d f u.
+          let n : size g ≡ size h = ap (λ (l : ℕ). l - IV-LEN) same in
+          let y = refuses g o c (not-done g o c f) in
+          let z = refuses h q d (not-done h q d u) in (
+            ap (λ (x : Opened × List ℕ). x .0) y ∙ (rw n) ∙ sym (ap (λ (x : Opened × List ℕ). x .0) z),
+            ap (λ (x : Opened × List ℕ). take (size g) (x .1)) y
+                ∙ (rw n (zeros-in-front (size h) (drop (size h) o) (drop (size h) q)))
+                ∙ sym (ap (λ (x : Opened × List ℕ). take (size h) (x .1)) z),
+          );
+    }

@@ -1,67 +1,83 @@
--- The figures at the edges, by one theorem over the list: each is worked out, and the longest body by its last byte alone. Assumes
--- nothing.
-use mathlib.Core.Bool.{true}
-use mathlib.Core.List.{List}
-use mathlib.Core.Path.{_≡_, refl, ap, _∙_}
-use Prim.Native.Nat.{ℕ, suc, _+_, _-_, _≤_}
+-- The figures at the edges, by one theorem over the list: a number is worked out, and the padding of a body is judged by its last bytes
+-- alone, whatever stands in front of them. Assumes nothing.
+use mathlib.Core.Bool.{true, false}
+use mathlib.Core.List.{List, _++_}
+use mathlib.Core.Path.{_≡_, refl, _∙_}
+use Prim.Native.Nat.{ℕ, suc, _+_, _-_, _≤_, _<_}
 use native.Mathlib.Omega.{arith}
-use lib.Dec.{lit≤}
+use borrow.Author.Tests.{lt-leb}
+use lib.Dec.{leb, lit≤, lit<}
 use lib.ListN.{length, drop, replicate, length-append, length-replicate, getD-replicate}
 use lib.Seq.{drop-at, getD-append-add}
 use Rattle.words.specs.Bytes.{number}
-use Rattle.words.specs.Choice.{bit}
-use Rattle.words.specs.Lists.{table, agree}
+use Rattle.words.specs.Lists.{table}
+use Rattle.words.proofs.Tests.{left-fails}
 use Rattle.sm4.specs.Standard.{ck, CK}
 use Rattle.record.specs.Opened.{lastByte, padFits, padRun, goodPad, held}
 use Rattle.record.specs.Standard.{sealedLength}
-use Rattle.record.proofs.Accepts.{good-padding, held-good}
+use Rattle.record.proofs.Accepts.{good-padding, held-good, held-bad}
 use Rattle.sizes.specs.Sizes.{macSteps, totalSteps}
-use Rattle.demands.specs.Figures.{ending, figures, Each}
+use Rattle.demands.specs.Figures.{Figure, figures, Says, Each}
 
--- ---- a body that ends in p + 1 bytes of value p, with a MAC's length or more in front
+-- ---- a body that ends in k + 1 bytes of value p
 
-module _ (front p : ℕ) where
-  -- what stands in front
-  abbrev before : List ℕ
-  before = replicate front 0xaa
-
+module _ (f : List ℕ) (k p : ℕ) where
   -- all of it
-  abbrev body : List ℕ
-  body = ending front (suc p) p
-
-  -- as long as asked for
-  length-before : length before ≡ front
-  length-before = length-replicate front 0xaa
+  abbrev pub body : List ℕ
+  body = f ++ replicate (suc k) p
 
   -- as long as both parts
-  length-ending : length body ≡ front + suc p
-  length-ending = length-append before (replicate (suc p) p) ∙ omega (arith, length-before, length-replicate p p)
+  length-ending : length body ≡ length f + suc k
+  length-ending = length-append f (replicate (suc k) p) ∙ omega (arith, length-replicate k p)
 
   -- its last byte is p
-  last-ending : lastByte body ≡ p
+  pub last-ending : lastByte body ≡ p
   unfolding lastByte
   last-ending =
-      let n : length body - 1 ≡ length before + p = omega (arith, length-ending, length-before) in
-      rw n (getD-append-add before (replicate (suc p) p) p 0 ∙ getD-replicate (suc p) p p 0 (omega arith))
+      let n : length body - 1 ≡ length f + k = omega (arith, length-ending) in
+      rw n (getD-append-add f (replicate (suc k) p) k 0 ∙ getD-replicate (suc k) k p 0 (omega arith))
 
-  -- its padding is good
-  good-ending : 32 ≤ front → goodPad body ≡ true
-  good-ending h =
-      let n : length before ≡ length body - (p + 1) = omega (arith, length-ending, length-before) in
-      good-padding body p last-ending (omega (arith, length-ending)) (drop-at before (replicate (suc p) p) (length body - (p + 1)) n)
+  -- p + 1 bytes that do not fit behind a MAC are no padding
+  bad-ending : length f + suc k < 32 + suc p → goodPad body ≡ false
+  unfolding goodPad padFits
+  bad-ending h = left-fails (padFits body) (padRun body) (rw last-ending (lt-leb (p + 1) (length body - 32) (omega (arith, length-ending))))
 
-  -- and all in front but the MAC is text
-  held-ending : 32 ≤ front → held body ≡ front - 32
-  held-ending h = held-good body (good-ending h) ∙ omega (arith, length-ending, last-ending)
+-- so, wherever the front ends and however many bytes p there are
+pub bad : (front k p l : ℕ) → front + suc k < 32 + suc p → front + suc k - 33 ≡ l → Says (Figure.ending front (suc k) p false l)
+unfolding Says
+bad front k p l h e f n =
+    let not-good = bad-ending f k p (omega arith) in
+    (not-good, held-bad (body f k p) not-good ∙ omega (arith, length-ending f k p))
+
+-- p + 1 bytes of value p behind a MAC's length or more are good padding, and all in front of the MAC is text
+pub good : (front p : ℕ) → 32 ≤ front → Says (Figure.ending front (suc p) p true (front - 32))
+unfolding Says
+good front p h f n =
+    let b = body f p p in
+    let at : length f ≡ length b - (p + 1) = omega (arith, length-ending f p p) in
+    let is-good = good-padding b p (last-ending f p p) (omega (arith, length-ending f p p)) (drop-at f (replicate (suc p) p) (length b - (p + 1)) at) in
+    (is-good, held-good b is-good ∙ omega (arith, length-ending f p p, last-ending f p p))
 
 -- ---- the list
 
--- the body of 16,432 bytes by the laws above, every other figure by working it out
+-- each padding by its law, every other figure by working it out
 pub figures-hold : Each figures
-unfolding Each sealedLength totalSteps macSteps lastByte padFits padRun goodPad held agree CK ck table number
+unfolding Each Says sealedLength totalSteps macSteps CK ck table number
 figures-hold =
-    let constants : Each (drop 18 figures) = (refl, (refl, tt)) in
-    let longest : Each (drop 16 figures) = (ap bit (good-ending 16431 0 (lit≤ tt)), (held-ending 16431 0 (lit≤ tt), constants)) in
-    let padding : Each (drop 8 figures) = (refl, (refl, (refl, (refl, (refl, (refl, (refl, (refl, longest)))))))) in
+    let constants : Each (drop 15 figures) = (refl, (refl, tt)) in
+    let padding : Each (drop 8 figures) = (
+      good 32 0x0f (lit≤ tt),
+      (
+        bad 47 0 0x10 15 (lit< tt) refl,
+        (
+          bad 31 16 0x10 15 (lit< tt) refl,
+          (
+            good 32 0xff (lit≤ tt),
+            (bad 271 0 0xff 239 (lit< tt) refl, (bad 16 255 0xff 239 (lit< tt) refl, (good 16431 0 (lit≤ tt), constants))),
+          ),
+        ),
+      ),
+    )
+    in
     let steps : Each (drop 4 figures) = (refl, (refl, (refl, (refl, padding)))) in
     (refl, (refl, (refl, (refl, steps))))

@@ -1,8 +1,12 @@
+pub mod BadRecords
+pub mod Checks
 pub mod Demand2
 pub mod Demand3
+pub mod Exported
 pub mod Figures
 pub mod Machine
 pub mod OneCall
+pub mod OnlyOurs
 pub mod Outcomes
 pub mod Parts
 pub mod Reached

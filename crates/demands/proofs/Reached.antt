@@ -15,10 +15,12 @@ use Rattle.opening.specs.Given.{Given, size}
 use Rattle.opening.proofs.Closed.{goes-on, closed-form}
 use Rattle.opening.proofs.Fits.{fits}
 use Rattle.opening.proofs.Turn.{report-before, report-end}
-use Rattle.demands.specs.Machine.{SamePlaces}
+use Rattle.demands.specs.Machine.{Keeps, SamePlaces}
+use Rattle.demands.specs.OneCall.{Held, machine, heldBy}
 use Rattle.demands.specs.Steppers.{ours, afterBy, Place, placeOf, placeAfter, Passes, Pair}
-use Rattle.demands.proofs.Machine.{Keeps, lockstep}
-use Rattle.demands.proofs.Stepping.{Held, machine, heldBy, ended-stays}
+use Rattle.demands.proofs.Checks.{passes-checks}
+use Rattle.demands.proofs.Machine.{lockstep}
+use Rattle.demands.proofs.Stepping.{ended-stays}
 
 -- the steps are those of the definitions
 ours-is-after : (g : Given) (o : List ℕ) (k : ℕ) → afterBy ours g o k ≡ after g o k
@@ -29,7 +31,7 @@ ours-is-after g o (suc k) = rw (ours-is-after g o k)
 -- which lead to the closed form
 pub as-defined : (g : Given) (o : List ℕ) → Passes g o → (k : ℕ) → k ≤ totalSteps (size g)
     → afterBy ours g o k ≡ (reportAfter g k, outAfter g o k)
-as-defined g o p k h = ours-is-after g o k ∙ closed-form g o (p .version) (p .checks) k h
+as-defined g o p k h = ours-is-after g o k ∙ closed-form g o (p .version) (passes-checks (p .checks)) k h
 
 -- ---- places
 
@@ -71,7 +73,7 @@ module _ (g : Given) (o : List ℕ) (p : Passes g o) where
   -- a step before T leads on in the closed form
   step-on : (k : ℕ) → k < T g → machine ours .step (closed g o k) ≡ closed g o (suc k)
   step-on k h =
-      let t = goes-on g (fits g o (p .version) (p .checks)) k h in
+      let t = goes-on g (fits g o (p .version) (passes-checks (p .checks))) k h in
       ap₂ (λ (s : Stepped) (x : List ℕ). record { opening = s .opening; r = g .r; out = x }) (t .0) (t .1)
 
   -- a step after T changes nothing

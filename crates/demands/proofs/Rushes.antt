@@ -17,12 +17,15 @@ use Rattle.steps.specs.State.{zeroWords, report, endedWith, started, begun}
 use Rattle.steps.specs.Step.{changed}
 use Rattle.opening.specs.Deprotected.{outputOf}
 use Rattle.opening.specs.Given.{Given, size, accepted, answerIn, lengthIn}
+use Rattle.demands.specs.Machine.{Keeps}
+use Rattle.demands.specs.OneCall.{Held, machine, heldBy}
 use Rattle.demands.specs.StandIns.{rushes}
 use Rattle.demands.specs.Steppers.{ours, afterBy, Place, placeOf, placeAfter, Passes, SamePlace, SameCount, RefusalsAlike}
+use Rattle.demands.proofs.Checks.{passes-checks}
 use Rattle.demands.proofs.Demand3.{at-end, same-count, refusals-alike}
-use Rattle.demands.proofs.Machine.{Keeps, lockstep}
+use Rattle.demands.proofs.Machine.{lockstep}
 use Rattle.demands.proofs.Reached.{T, first-places}
-use Rattle.demands.proofs.Stepping.{Held, machine, heldBy, places-agree}
+use Rattle.demands.proofs.Stepping.{places-agree}
 
 -- ---- same place
 
@@ -99,7 +102,7 @@ module _ (g : Given) (o : List ℕ) (p : Passes g o) where
   -- it idles from step 1 to step T - 1
   idles : (k : ℕ) → suc k < T g → afterBy rushes g o (suc k) ≡ (report (idle (suc k)) Done 0 (suc k), outputOf g o)
   unfolding afterBy started begun changed size
-  idles zero h = rw (p .checks)
+  idles zero h = rw (passes-checks (p .checks))
   idles (suc k) h =
       ap (λ (y : Stepped × List ℕ). rushes .step (y .0 .opening) (g .r) (y .1)) (idles k (omega arith)) ∙ step-idle k (outputOf g o) h
 
@@ -114,7 +117,7 @@ module _ (g : Given) (o : List ℕ) (p : Passes g o) where
   unfolding totalSteps outputOf
   ends-alike =
       let n : suc (suc (T g - 2)) ≡ T g = omega arith in
-      ap (afterBy rushes g o) (sym n) ∙ ends (T g - 2) n ∙ rw (p .checks) (sym (at-end g o p))
+      ap (afterBy rushes g o) (sym n) ∙ ends (T g - 2) n ∙ rw (passes-checks (p .checks)) (sym (at-end g o p))
 
   -- before it the steps done are counted
   counts-alike : (k : ℕ) → k < T g → (placeAfter rushes g o k .ended ≡ false) × (afterBy rushes g o k .0 .count ≡ k)

@@ -1,22 +1,35 @@
 -- The stand-ins among the steppers do not meet what is asked: two are refuted by opening one record into two outputs that differ in
--- one byte, the third by its count after step 1. Assumes nothing.
+-- one byte, one by its count after step 1, one by a record with bad padding beside one with a wrong MAC, one by a step too many.
+-- Assumes nothing.
+use mathlib.Core.Bool.{Bool, true, false, cond}
 use mathlib.Core.List.{List, _∷_, _++_}
-use mathlib.Core.Path.{_≡_, refl, sym, ap, _∙_}
-use Prim.Native.Nat.{ℕ, _-_}
+use mathlib.Core.Path.{_≡_, refl, sym, ap, ap₂, _∙_}
+use Prim.Native.Nat.{ℕ, zero, suc, _-_, _≤_}
 use native.Mathlib.Omega.{arith}
+use lib.Dec.{eqb, lit≤}
 use lib.ListN.{length, take, drop, replicate, getD}
 use lib.Seq.{take-at, drop-at, length-take-le}
-use Rattle.sizes.specs.Sizes.{sizeAnswer, totalSteps}
+use Rattle.answers.specs.Answers.{Done, BadRecord, TooBig}
+use Rattle.words.specs.Bytes.{Bytes}
+use Rattle.record.specs.Opened.{goodPad}
+use Rattle.sizes.specs.Sizes.{totalSteps}
 use Rattle.steps.specs.declared.Stepped.{Stepped}
-use Rattle.steps.specs.State.{startAnswer, started, begun}
-use Rattle.opening.specs.Closed.{written, outAfter}
+use Rattle.steps.specs.State.{report, allZero, started, begun}
+use Rattle.steps.specs.Step.{stepped}
+use Rattle.opening.specs.Closed.{running, reportAfter, written, outAfter}
 use Rattle.opening.specs.Deprotected.{bodyAfter, outputOf}
-use Rattle.opening.specs.Given.{Given, size, decrypted}
+use Rattle.opening.specs.Given.{Given, size, decrypted, accepted, answerIn}
+use Rattle.opening.proofs.Closed.{goes-on}
+use Rattle.opening.proofs.Fields.{mark-read}
 use Rattle.opening.proofs.Fits.{fits, length-decrypted}
 use Rattle.opening.proofs.Output.{out-before}
-use Rattle.demands.specs.StandIns.{writesNothing, rushes, ownCount}
-use Rattle.demands.specs.Steppers.{Stepper, afterBy, Passes, SameCount, WorkAsDefined}
+use Rattle.opening.proofs.Turn.{report-before, report-end}
+use Rattle.demands.specs.StandIns.{writesNothing, rushes, ownCount, tellsApart, revives}
+use Rattle.demands.specs.Steppers.{Stepper, ours, afterBy, Passes, Pair, SameCount, WorkAsDefined, RefusalsAlike, StepsTooMany}
+use Rattle.demands.proofs.BadRecords.{length-zeros, holding, decrypted-holding, length-holding, checks-holding, badPadding, length-bad, bytes-bad, not-good, bad-refused, badMac, length-mac, bytes-mac, good-mac, mac-refused}
+use Rattle.demands.proofs.Checks.{passes-checks}
 use Rattle.demands.proofs.Demand3.{same-count}
+use Rattle.demands.proofs.Reached.{T, as-defined}
 
 -- ---- a record that passes the checks
 
@@ -40,8 +53,7 @@ marked i = replicate i 0 ++ (1 ∷ replicate (47 - i) 0)
 
 -- they pass
 passes : (o : List ℕ) → length o ≡ 48 → Passes zeros o
-unfolding startAnswer sizeAnswer
-passes o e = record { version = refl; checks = rw e }
+passes o e = record { version = refl; checks = record { least = lit≤ tt; whole = refl; most = lit≤ tt; fits = omega (arith, e) } }
 
 -- ---- after step 1
 
@@ -50,14 +62,14 @@ module _ (g : Given) (o : List ℕ) (p : Passes g o) where
   out-one : outAfter g o 1 ≡ take 16 (decrypted g) ++ drop 16 o
   unfolding written totalSteps
   out-one =
-      let f = fits g o (p .version) (p .checks) in
+      let f = fits g o (p .version) (passes-checks (p .checks)) in
       let n : written g 1 ≡ 16 = omega (arith, f .body .least) in
       out-before g o 1 (omega arith) ∙ ap (λ (i : ℕ). take i (decrypted g) ++ drop i o) n
 
   -- which is 16 bytes long
   length-one : length (take 16 (decrypted g)) ≡ 16
   length-one =
-      let f = fits g o (p .version) (p .checks) in
+      let f = fits g o (p .version) (passes-checks (p .checks)) in
       length-take-le 16 (decrypted g) (omega (arith, length-decrypted g f, f .body .least))
 
   -- as any stepper that does the work as defined leaves it
@@ -85,14 +97,14 @@ writesNothing-fails w =
 -- the output after step 1 is that of the one call
 rushed : (g : Given) (o : List ℕ) → Passes g o → afterBy rushes g o 1 .1 ≡ outputOf g o
 unfolding afterBy started begun
-rushed g o p = rw (p .checks)
+rushed g o p = rw (passes-checks (p .checks))
 
 -- so what stands behind the first block would not depend on what stood there
 behind : WorkAsDefined rushes → (o : List ℕ) → length o ≡ 48 → take 16 (decrypted zeros) ++ drop 16 o ≡ bodyAfter zeros ++ drop (size zeros) o
 unfolding outputOf
 behind w o e =
     let p = passes o e in
-    sym (worked zeros o p rushes w) ∙ rushed zeros o p ∙ rw (p .checks)
+    sym (worked zeros o p rushes w) ∙ rushed zeros o p ∙ rw (passes-checks (p .checks))
 
 -- ALL IN STEP 1. But it stays as found, in both outputs.
 pub rushes-fails : WorkAsDefined rushes → ⊥
@@ -112,3 +124,93 @@ unfolding SameCount afterBy totalSteps
 ownCount-fails s =
     let p = passes blank refl in
     omega (arith, s zeros blank p .count 1 (omega arith), same-count zeros blank p .count 1 (omega arith))
+
+-- ---- a padding oracle
+
+-- all but the answer
+abbrev rest : Stepped × List ℕ → Stepped × List ℕ
+rest y = (report (y .0 .opening) Done (y .0 .length) (y .0 .count), y .1)
+
+-- is ours after every number of steps
+rest-ours : (g : Given) (o : List ℕ) (k : ℕ) → rest (afterBy tellsApart g o k) ≡ rest (afterBy ours g o k)
+unfolding afterBy
+rest-ours g o zero = refl
+rest-ours g o (suc k) = ap (λ (y : Stepped × List ℕ). rest (ours .step (y .0 .opening) (g .r) (y .1))) (rest-ours g o k)
+
+-- what it makes of the padding mark and of our answer
+abbrev telling : Bool → ℕ → ℕ
+telling mark answer = cond (eqb answer BadRecord) (cond mark BadRecord TooBig) answer
+
+module _ (g : Given) (o : List ℕ) (p : Passes g o) where
+  -- before the last step the mark says whether the padding is good
+  mark-last : reportAfter g (T g - 1) .opening .«pad_ok» ≡ goodPad (decrypted g)
+  unfolding totalSteps running
+  mark-last = rw (report-before g (T g - 1) (omega arith)) (mark-read g (T g - 1) (omega arith))
+
+  -- and the last step of ours answers by the verdict
+  answer-last : stepped (reportAfter g (T g - 1) .opening) (g .r) (outAfter g o (T g - 1)) .answer ≡ answerIn g
+  unfolding totalSteps
+  answer-last =
+      let n : suc (T g - 1) ≡ T g = omega arith in
+      let f = fits g o (p .version) (passes-checks (p .checks)) in
+      ap (λ (s : Stepped). s .answer) (goes-on g f (T g - 1) (omega arith) .0 ∙ ap (reportAfter g) n ∙ report-end g)
+
+  -- so a refused record is told by its padding
+  tells : accepted g ≡ false → afterBy tellsApart g o (T g) .0 .answer ≡ cond (goodPad (decrypted g)) BadRecord TooBig
+  unfolding totalSteps answerIn afterBy
+  tells refused =
+      let n : T g ≡ suc (T g - 1) = omega arith in
+      let six : answerIn g ≡ BadRecord = rw refused in
+      ap (λ (k : ℕ). afterBy tellsApart g o k .0 .answer) n
+      ∙ ap (λ (y : Stepped × List ℕ). telling (y .0 .opening .«pad_ok») (stepped (y .0 .opening) (g .r) (y .1) .answer))
+      (rest-ours g o (T g - 1) ∙ ap rest (as-defined g o p (T g - 1) (omega arith)))
+      ∙ ap₂ telling mark-last (answer-last ∙ six)
+
+-- a record that deciphers to 48 bytes, opened into as many zeros
+passes-holding : (d : List ℕ) → Bytes d → length d ≡ 48 → Passes (holding d) blank
+passes-holding d bytes long =
+    record { version = length-zeros 2; checks = checks-holding d bytes long blank (lit≤ tt) }
+
+-- TELLS APART. Bad padding would be answered as a wrong MAC is.
+pub tellsApart-fails : RefusalsAlike tellsApart → ⊥
+unfolding RefusalsAlike
+tellsApart-fails alike =
+    let p = passes-holding badPadding bytes-bad length-bad in
+    let q = passes-holding badMac bytes-mac length-mac in
+    let five : afterBy tellsApart (holding badPadding) blank (T (holding badPadding)) .0 .answer ≡ TooBig =
+    tells (holding badPadding) blank p bad-refused
+    ∙ ap (λ (t : Bool). cond t BadRecord TooBig) (ap goodPad (decrypted-holding badPadding bytes-bad length-bad) ∙ not-good) in
+    let six : afterBy tellsApart (holding badMac) blank (T (holding badMac)) .0 .answer ≡ BadRecord =
+    tells (holding badMac) blank q mac-refused
+    ∙ ap (λ (t : Bool). cond t BadRecord TooBig) (ap goodPad (decrypted-holding badMac bytes-mac length-mac) ∙ good-mac) in
+    let same = alike (holding badPadding) (holding badMac) blank blank
+    (record {
+      equal = length-holding badPadding bytes-bad length-bad ∙ sym (length-holding badMac bytes-mac length-mac);
+      first = p;
+      second = q;
+    })
+    (λ e. omega (arith, e, five)) (λ e. omega (arith, e, six)) in
+    omega (arith, five, six, ap (λ (s : Stepped). s .answer) (same .0))
+
+-- ---- an ended opening
+
+-- up to step T it is ours
+upto : (g : Given) (o : List ℕ) → Passes g o → (k : ℕ) → k ≤ T g → afterBy revives g o k ≡ afterBy ours g o k
+unfolding afterBy SameCount
+upto g o p zero h = refl
+upto g o p (suc k) h =
+    ap (λ (y : Stepped × List ℕ). revives .step (y .0 .opening) (g .r) (y .1)) (upto g o p k (omega arith))
+    ∙ ap (λ (t : Bool). cond {A = Stepped × List ℕ} t (report allZero Done 0 0, g .r) (afterBy ours g o (suc k)))
+    (same-count g o p .not-before k (omega arith))
+
+-- REVIVES. The step after it would be answered 8.
+pub revives-fails : StepsTooMany revives → ⊥
+unfolding StepsTooMany afterBy SameCount
+revives-fails many =
+    let p = passes blank refl in
+    let e = ap (λ (y : Stepped × List ℕ). y .0 .answer) (many zeros blank p (suc (T zeros)) (omega arith)) in
+    let again : afterBy revives zeros blank (suc (T zeros)) ≡ (report allZero Done 0 0, zeros .r) =
+    ap (λ (y : Stepped × List ℕ). revives .step (y .0 .opening) (zeros .r) (y .1)) (upto zeros blank p (T zeros) (omega arith))
+    ∙ ap (λ (t : Bool). cond {A = Stepped × List ℕ} t (report allZero Done 0 0, zeros .r) (afterBy ours zeros blank (suc (T zeros))))
+    (same-count zeros blank p .ends) in
+    omega (arith, e, ap (λ (y : Stepped × List ℕ). y .0 .answer) again)

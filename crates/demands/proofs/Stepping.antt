@@ -1,4 +1,4 @@
--- A stepper as a machine of steps: its state is what the caller holds between two steps. Assumes nothing.
+-- The steps of a stepper as runs of its machine, and the answers 7 and 8 of ours, which change nothing. Assumes nothing.
 use mathlib.Core.Bool.{Bool, true, false}
 use mathlib.Core.List.{List}
 use mathlib.Core.Path.{_≡_, refl, sym, ap, _∙_}
@@ -10,32 +10,12 @@ use Rattle.steps.specs.declared.Stepped.{Stepped}
 use Rattle.steps.specs.State.{report}
 use Rattle.steps.specs.Step.{broken, stepped, outputAfter}
 use Rattle.opening.specs.Given.{Given}
-use Rattle.demands.specs.Machine.{Machine, run, SamePlaces}
-use Rattle.demands.specs.Steppers.{Stepper, ours, afterBy, Place, placeOf, placeAfter}
+use Rattle.demands.specs.Machine.{run, SamePlaces}
+use Rattle.demands.specs.OneCall.{Held, machine, heldBy}
+use Rattle.demands.specs.Steppers.{Stepper, ours, afterBy, placeAfter}
 use Rattle.demands.proofs.Machine.{stuck}
 
--- opening, record and output
-pub record Held : Type 0 where
-  pub opening : OpeningCbc
-  pub r : List ℕ
-  pub out : List ℕ
-
--- a step hands back opening and output, the record stays
-abbrev pub machine : Stepper → Machine Held Place
-machine S =
-    record {
-      step = λ x.
-          let y = S .step (x .opening) (x .r) (x .out) in
-          record { opening = y .0 .opening; r = x .r; out = y .1 };
-      place = λ x. placeOf (x .opening);
-      ended = λ p. p .ended;
-    }
-
--- what is held after the start and k steps
-abbrev pub heldBy : Stepper → Given → List ℕ → ℕ → Held
-heldBy S g o k = record { opening = afterBy S g o k .0 .opening; r = g .r; out = afterBy S g o k .1 }
-
--- is a run of the machine from what is held after the start
+-- what is held after the start and k steps is a run of the machine from what is held after the start
 pub run-is-steps : (S : Stepper) (g : Given) (o : List ℕ) (k : ℕ) → run (machine S) (heldBy S g o 0) k ≡ heldBy S g o k
 unfolding run afterBy
 run-is-steps S g o zero = refl

@@ -1,48 +1,53 @@
 -- The figures at the edges, each beside the definition that it is a figure of. Assumes nothing.
+use mathlib.Core.Bool.{Bool, true, false}
 use mathlib.Core.List.{List, [], _∷_, _++_}
 use mathlib.Core.Path.{_≡_}
 use Prim.Native.Nat.{ℕ}
-use lib.ListN.{replicate}
-use Rattle.words.specs.Choice.{bit}
+use lib.ListN.{length, replicate}
 use Rattle.sm4.specs.Standard.{CK}
 use Rattle.record.specs.Opened.{goodPad, held}
 use Rattle.record.specs.Standard.{sealedLength}
 use Rattle.sizes.specs.Sizes.{totalSteps}
 
--- a body of which the last k bytes have value p, and all in front of them another
-abbrev pub ending : ℕ → ℕ → ℕ → List ℕ
-ending front k p = replicate front 0xaa ++ replicate k p
+-- a number that is worked out and its figure; or, of every body of so many bytes and then k bytes of value p, whether its padding is
+-- good, and the length held
+pub data Figure : Type 0 where
+  worked : ℕ → ℕ → Figure
+  ending : ℕ → ℕ → ℕ → Bool → ℕ → Figure
 
--- what is worked out, and the figure
-abbrev pub figures : List (ℕ × ℕ)
+abbrev pub figures : List Figure
 figures =
     -- sealed lengths
-    (sealedLength 0, 64)
-    ∷ (sealedLength 15, 64)
-    ∷ (sealedLength 16, 80)
-    ∷ (sealedLength 16384, 16448)
+    worked (sealedLength 0) 64
+    ∷ worked (sealedLength 15) 64
+    ∷ worked (sealedLength 16) 80
+    ∷ worked (sealedLength 16384) 16448
     -- T
-    ∷ (totalSteps 48, 8)
-    ∷ (totalSteps 80, 11)
-    ∷ (totalSteps 288, 27)
-    ∷ (totalSteps 16432, 1288)
-    -- padding: the mark, and the length held
-    ∷ (bit (goodPad (ending 32 16 0x0f)), 1)
-    ∷ (held (ending 32 16 0x0f), 0)
-    ∷ (bit (goodPad (ending 47 1 0x10)), 0)
-    ∷ (held (ending 47 1 0x10), 15)
-    ∷ (bit (goodPad (ending 32 256 0xff)), 1)
-    ∷ (held (ending 32 256 0xff), 0)
-    ∷ (bit (goodPad (ending 271 1 0xff)), 0)
-    ∷ (held (ending 271 1 0xff), 239)
-    ∷ (bit (goodPad (ending 16431 1 0x00)), 1)
-    ∷ (held (ending 16431 1 0x00), 16399)
+    ∷ worked (totalSteps 48) 8
+    ∷ worked (totalSteps 80) 11
+    ∷ worked (totalSteps 288) 27
+    ∷ worked (totalSteps 16432) 1288
+    -- padding: body 48 ending in sixteen 0x0f; in 0x10, be it seventeen of them; body 288 ending in 256 bytes 0xff; body 272 ending in
+    -- 0xff, be it 256 of them; body 16,432 ending in 0x00
+    ∷ ending 32 16 0x0f true 0
+    ∷ ending 47 1 0x10 false 15
+    ∷ ending 31 17 0x10 false 15
+    ∷ ending 32 256 0xff true 0
+    ∷ ending 271 1 0xff false 239
+    ∷ ending 16 256 0xff false 239
+    ∷ ending 16431 1 0x00 true 16399
     -- CK
-    ∷ (CK 0, 0x00070e15)
-    ∷ (CK 31, 0x646b7279)
+    ∷ worked (CK 0) 0x00070e15
+    ∷ worked (CK 31) 0x646b7279
     ∷ []
 
--- each figure is what is worked out
-unfoldable pub Each : List (ℕ × ℕ) → Type 0
+-- what an entry says
+unfoldable pub Says : Figure → Type 0
+Says (worked x y) = x ≡ y
+Says (ending front k p good l) =
+    (f : List ℕ) → length f ≡ front → (goodPad (f ++ replicate k p) ≡ good) × (held (f ++ replicate k p) ≡ l)
+
+-- each entry holds
+unfoldable pub Each : List Figure → Type 0
 Each [] = Unit {0}
-Each ((x, y) ∷ rest) = (x ≡ y) × Each rest
+Each (x ∷ rest) = Says x × Each rest

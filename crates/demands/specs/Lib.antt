@@ -1,5 +1,9 @@
+pub mod Checks
+pub mod Exported
 pub mod Figures
 pub mod Machine
+pub mod OneCall
+pub mod OnlyOurs
 pub mod Openers
 pub mod Outcomes
 pub mod Parts

@@ -1,32 +1,75 @@
 -- The stand-ins that the statements must rule out, each as a sealer, an opener or a stepper. Assumes nothing.
 use mathlib.Core.Bool.{true, cond}
 use mathlib.Core.List.{List, _++_}
-use Prim.Native.Nat.{ℕ, suc, _+_}
+use Prim.Native.Nat.{ℕ, suc, _+_, _-_}
 use lib.Dec.{eqb, ltb}
-use lib.ListN.{length, drop, replicate}
-use Rattle.answers.specs.Answers.{Done, BadRecord}
+use lib.ListN.{length, drop}
+use Rattle.answers.specs.Answers.{Done, NoRoom, TooBig, BadRecord}
+use Rattle.words.specs.Lists.{put}
 use Rattle.sizes.specs.Sizes.{totalSteps}
 use Rattle.steps.specs.declared.OpeningCbc.{OpeningCbc}
-use Rattle.steps.specs.State.{report, endedWith}
+use Rattle.steps.specs.State.{report, endedWith, allZero}
 use Rattle.steps.specs.Step.{changed, stepped, outputAfter}
+use Rattle.record.specs.Limits.{IV-LEN}
+use Rattle.record.specs.Opened.{lastByte}
 use Rattle.record.specs.Sealing.{reportOf}
-use Rattle.opening.specs.Deprotected.{outputOf}
-use Rattle.opening.specs.Given.{Given, size, accepted, lengthIn}
-use Rattle.demands.specs.Openers.{Sealer, Opener, laid}
+use Rattle.record.specs.Standard.{sealedLength, sealedRecord}
+use Rattle.opening.specs.Deprotected.{deprotected, outputOf}
+use Rattle.opening.specs.Given.{Given, size, decrypted, accepted, lengthIn}
+use Rattle.demands.specs.Openers.{Sealer, Opener, ourOpener, laid, blank}
 use Rattle.demands.specs.Steppers.{Stepper, ours}
+
+-- ---- openers
 
 -- refuses every record
 abbrev pub refusesAll : Opener
-refusesAll g o =
-    (record { answer = BadRecord; length = 0; count = totalSteps (size g) }, replicate (size g) 0 ++ drop (size g) o)
+refusesAll g o = (record { answer = BadRecord; length = 0; count = totalSteps (size g) }, blank (size g) o)
 
 -- gives one fixed text, whatever the record is
 abbrev pub fixedText : List ℕ → Opener
 fixedText text g o = (record { answer = Done; length = length text; count = totalSteps (size g) }, laid text (size g) o)
 
+-- ours, but a refused record's decryption stays in the output
+abbrev pub leaks : Opener
+leaks g o = (
+  deprotected g (length o),
+  cond (eqb (deprotected g (length o) .answer) BadRecord) (decrypted g ++ drop (size g) o) (outputOf g o),
+)
+
+-- ours, but the length reported with answer 6 is what the padding says of itself
+abbrev pub tellsLength : Opener
+tellsLength g o =
+    let t = deprotected g (length o) in (
+      record { answer = t .answer; length = cond (eqb (t .answer) BadRecord) (lastByte (decrypted g)) (t .length); count = t .count },
+      outputOf g o,
+    )
+
+-- ours, but 2 comes before the size of the record is looked at
+abbrev pub roomFirst : Opener
+roomFirst g o = cond (ltb (length o) (size g)) (record { answer = NoRoom; length = 0; count = 0 }, o) (ourOpener g o)
+
+-- ---- sealers
+
 -- reports as ours does, and writes nothing
 abbrev pub sealsNothing : Sealer
 sealsNothing keys seq type version iv text out = (reportOf (length text) (length out), out)
+
+-- seals a text of any length
+abbrev pub sealsAnyLength : Sealer
+sealsAnyLength keys seq type version iv text out =
+    cond (ltb (length out) (sealedLength (length text))) (record { answer = NoRoom; length = 0 }, out)
+    (record { answer = Done; length = sealedLength (length text) }, put 0 (sealedRecord keys seq type version iv text) out)
+
+-- a pair by which every text comes back, and nothing is enciphered: one writes the text as it is, the other hands it out
+abbrev pub copies : Sealer
+copies keys seq type version iv text out = (record { answer = Done; length = length text }, put 0 text out)
+
+abbrev pub copiesBack : Opener
+copiesBack g o =
+    let n = sealedLength (length (g .r)) - IV-LEN in
+    (record { answer = Done; length = length (g .r); count = totalSteps n }, laid (g .r) n o)
+
+-- ---- steppers
 
 -- a step that reports as ours does, and writes nothing
 abbrev pub writesNothing : Stepper
@@ -70,4 +113,24 @@ ownCount =
       step = λ s r o.
           let t = stepped s r o in
           (report (t .opening) (t .answer) (t .length) (suc (t .count)), outputAfter s r o);
+    }
+
+-- ours, but wrong padding is answered 5 and a wrong MAC 6
+abbrev pub tellsApart : Stepper
+tellsApart =
+    record {
+      start = ours .start;
+      step = λ s r o.
+          let t = stepped s r o in (
+            report (t .opening) (cond (eqb (t .answer) BadRecord) (cond (s .«pad_ok») BadRecord TooBig) (t .answer)) (t .length) (t .count),
+            outputAfter s r o,
+          );
+    }
+
+-- ours, but on an ended opening it answers 0, hands back one that has not ended, and overwrites the output
+abbrev pub revives : Stepper
+revives =
+    record {
+      start = ours .start;
+      step = λ s r o. cond (s .ended) (report allZero Done 0 0, r) (stepped s r o, outputAfter s r o);
     }

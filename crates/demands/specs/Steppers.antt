@@ -3,16 +3,18 @@
 use mathlib.Core.Bool.{Bool, true, false}
 use mathlib.Core.List.{List}
 use mathlib.Core.Path.{_≡_}
-use Prim.Native.Nat.{ℕ, zero, suc, _≤_, _<_}
+use Prim.Native.Nat.{ℕ, zero, suc, _+_, _-_, _%_, _≤_, _<_}
 use lib.ListN.{length, take}
-use Rattle.answers.specs.Answers.{Done}
-use Rattle.sizes.specs.Sizes.{totalSteps}
+use Rattle.answers.specs.Answers.{Done, BadState, Ended}
+use Rattle.record.specs.Limits.{MAC-LEN, IV-LEN}
+use Rattle.sizes.specs.Sizes.{MIN-RECORD, MAX-BODY, totalSteps}
 use Rattle.steps.specs.declared.OpeningCbc.{OpeningCbc}
 use Rattle.steps.specs.declared.Stepped.{Stepped}
-use Rattle.steps.specs.State.{startAnswer, started}
+use Rattle.steps.specs.State.{report, allZero, started}
 use Rattle.steps.specs.Step.{stepped, outputAfter}
 use Rattle.opening.specs.Closed.{reportAfter, outAfter}
 use Rattle.opening.specs.Given.{Given, size}
+use Rattle.demands.specs.Checks.{Openable, NotOpened}
 
 -- a start, for so much room, and a step on an opening, a record and an output
 pub record Stepper : Type 0 where
@@ -49,7 +51,7 @@ placeAfter S g o k = placeOf (afterBy S g o k .0 .opening)
 -- an opening that passes the checks; a version is two bytes, as its type says
 pub record Passes (g : Given) (o : List ℕ) : Type 0 where
   pub version : length (g .version) ≡ 2
-  pub checks : startAnswer (length (g .r)) (length o) ≡ Done
+  pub checks : Openable (length (g .r)) (length o)
 
 -- two of them with records of equal length; keys, number, type, version, bytes, the outputs' lengths and what they held are free
 pub record Pair (g h : Given) (o q : List ℕ) : Type 0 where
@@ -78,14 +80,52 @@ WorkAsDefined S =
     (g : Given) (o : List ℕ) → Passes g o → (k : ℕ) → k ≤ totalSteps (size g)
     → afterBy S g o k ≡ (reportAfter g k, outAfter g o k)
 
--- REFUSALS LOOK ALIKE. If both refuse with the same number, reported answer, length, count, the ended openings and the first n bytes
--- of the outputs are equal.
+-- REFUSALS LOOK ALIKE. If both refuse, reported answer, length, count, the ended openings and the first n bytes of the outputs are
+-- equal.
 unfoldable pub RefusalsAlike : Stepper → Type 0
 RefusalsAlike S =
     (g h : Given) (o q : List ℕ) → Pair g h o q
     → let a = afterBy S g o (totalSteps (size g)) in
     let b = afterBy S h q (totalSteps (size h)) in
-    (a .0 .answer ≡ Done → ⊥) → a .0 .answer ≡ b .0 .answer → (a .0 ≡ b .0) × (take (size g) (a .1) ≡ take (size h) (b .1))
+    (a .0 .answer ≡ Done → ⊥) → (b .0 .answer ≡ Done → ⊥) → (a .0 ≡ b .0) × (take (size g) (a .1) ≡ take (size h) (b .1))
+
+-- STEPS TOO MANY. Every step after step T answers 8, with length 0 and count 0; opening and output stay as step T left them.
+unfoldable pub StepsTooMany : Stepper → Type 0
+StepsTooMany S =
+    (g : Given) (o : List ℕ) → Passes g o → (k : ℕ) → totalSteps (size g) < k
+    → let last = afterBy S g o (totalSteps (size g)) in
+    afterBy S g o k ≡ (report (last .0 .opening) Ended 0 0, last .1)
+
+-- A REFUSED START hands back the all-zero opening with its number, 3, 4, 5 or 2, with length 0 and count 0; every step after it answers
+-- 7, with length 0 and count 0, and opening and output stay as they were.
+pub record Refused (S : Stepper) (g : Given) (o : List ℕ) (answer : ℕ) : Type 0 where
+  pub start : S .start g (length o) ≡ report allZero answer 0 0
+  pub steps : (k : ℕ) → afterBy S g o (suc k) ≡ (report allZero BadState 0 0, o)
+
+unfoldable pub RefusedStart : Stepper → Type 0
+RefusedStart S = (g : Given) (o : List ℕ) (answer : ℕ) → NotOpened (length (g .r)) (length o) answer → Refused S g o answer
+
+-- an opening in its ranges, with a record of r bytes and so much room: no row of answer 7 applies
+pub record InRange (s : OpeningCbc) (r room : ℕ) : Type 0 where
+  pub least : MIN-RECORD - IV-LEN ≤ s .n
+  pub most : s .n ≤ MAX-BODY
+  pub whole : s .n % 16 ≡ 0
+  pub steps : s .total ≡ totalSteps (s .n)
+  pub unfinished : s .ended ≡ false → s .done < s .total
+  pub text : s .held ≤ s .n - (MAC-LEN + 1)
+  pub sized : r ≡ s .n + IV-LEN
+  pub fits : s .n ≤ room
+
+-- ANSWERS 7 AND 8, on every opening, record and output, reached or not: 7 exactly if the opening is not in its ranges, then 8 exactly if
+-- it has ended; with length 0 and count 0, opening and output as they were.
+pub record StepRefusals (S : Stepper) (s : OpeningCbc) (r o : List ℕ) : Type 0 where
+  pub seven : (InRange s (length r) (length o) → ⊥) → S .step s r o ≡ (report s BadState 0 0, o)
+  pub eight : InRange s (length r) (length o) → s .ended ≡ true → S .step s r o ≡ (report s Ended 0 0, o)
+  pub neither : InRange s (length r) (length o) → s .ended ≡ false
+      → (S .step s r o .0 .answer ≡ BadState → ⊥) × (S .step s r o .0 .answer ≡ Ended → ⊥)
+
+unfoldable pub Refusals7And8 : Stepper → Type 0
+Refusals7And8 S = (s : OpeningCbc) (r o : List ℕ) → StepRefusals S s r o
 
 -- Demand 3
 pub record Demand3 (S : Stepper) : Type 0 where
@@ -93,3 +133,6 @@ pub record Demand3 (S : Stepper) : Type 0 where
   pub same-count : SameCount S
   pub work-as-defined : WorkAsDefined S
   pub refusals-alike : RefusalsAlike S
+  pub steps-too-many : StepsTooMany S
+  pub refused-start : RefusedStart S
+  pub refusals-7-and-8 : Refusals7And8 S

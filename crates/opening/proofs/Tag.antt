@@ -15,7 +15,7 @@ use Rattle.mac_blocks.specs.Schedule.{ended, final, absorbed, innerKey, outerKe
 use Rattle.mac_blocks.proofs.Schedule.{absorbed-iteration, tag-blocks}
 use Rattle.verdict.specs.declared.Verdict.{Verdict}
 use Rattle.verdict.specs.Verdict.{verdictOf, clearedFrom}
-use Rattle.opening.specs.Closed.{innerHash}
+use Rattle.opening.specs.Closed.{innerHash, compared}
 use Rattle.opening.specs.Deprotected.{bodyAfter}
 use Rattle.opening.specs.Given.{Given, size, decrypted, tagIn, accepted, covered, answerIn, lengthIn}
 use Rattle.opening.proofs.Fits.{Fits, length-decrypted, length-text}
@@ -25,11 +25,7 @@ pub kept-is-inner-hash : (g : Given) → absorbed (innerKey (g .keys .«mac_key�
 unfolding innerHash ended
 kept-is-inner-hash g = absorbed-iteration (innerKey (g .keys .«mac_key»)) (covered g)
 
--- the value that the last step compares with the MAC in the body
-abbrev pub compared : Given → List ℕ
-compared g = bytesOf (outerDigest (outerKey (g .keys .«mac_key»)) (innerHash g))
-
--- is HMAC of RFC 2104 over header and text cut to the length held
+-- the value that the last step compares with the MAC in the body is HMAC of RFC 2104 over header and text cut to the length held
 pub hmac-at-end : (g : Given) → compared g ≡ HMAC SM3 (g .keys .«mac_key») (covered g)
 hmac-at-end g =
     let K = g .keys .«mac_key» in

@@ -6,7 +6,7 @@ use Prim.Native.Nat.{ℕ, zero, suc, _+_, _-_, _*_, min}
 use lib.Dec.{leb, ltb}
 use lib.ListN.{length, take, drop}
 use Rattle.answers.specs.Answers.{Done}
-use Rattle.sm3.specs.Standard.{ending, iteration}
+use Rattle.sm3.specs.Standard.{ending, iteration, bytesOf}
 use Rattle.record.specs.Opened.{goodPad, held}
 use Rattle.sizes.specs.Sizes.{blocks, macSteps, totalSteps}
 use Rattle.mac_blocks.specs.Schedule.{final, absorbed, innerKey, outerKey, outerDigest}
@@ -22,6 +22,10 @@ unfoldable pub innerHash : Given → List ℕ
 innerHash g =
     let m = covered g in
     iteration (innerKey (g .keys .«mac_key»)) (m ++ ending (64 + length m) (64 + length m))
+
+-- the value that the last step compares with the MAC in the body: the outer hash of that, in bytes
+abbrev pub compared : Given → List ℕ
+compared g = bytesOf (outerDigest (outerKey (g .keys .«mac_key»)) (innerHash g))
 
 -- the chaining words: none before the padding is read, then those of the inner hash's blocks so far, then the outer hash's two
 unfoldable pub wordsAfter : Given → ℕ → List ℕ

@@ -5,7 +5,7 @@ use mathlib.Core.List.{List}
 use mathlib.Core.Path.{_≡_, refl, sym, ap, _∙_}
 use Prim.Native.Nat.{ℕ, _≤_, _<_}
 use native.Mathlib.Omega.{arith}
-use borrow.Author.Tests.{ltb-true, ltb-false, lt-ltb, ne-eqb}
+use borrow.Author.Tests.{ltb-true, ltb-false, ne-eqb}
 use lib.Dec.{ltb}
 use lib.ListN.{length, take}
 use lib.Seq.{length-take-le}
@@ -25,8 +25,10 @@ use Rattle.opening.specs.declared.Opened.{Opened}
 use Rattle.opening.specs.Deprotected.{deprotected, outputOf}
 use Rattle.opening.specs.Given.{Given}
 use Rattle.opening.specs.Promise.{Deprotected}
+use Rattle.demands.specs.Checks.{NotOpened}
 use Rattle.demands.specs.Openers.{ourOpener, laid, RoundTrip}
-use Rattle.demands.proofs.Demand2.{round-trip, sealed-size}
+use Rattle.demands.proofs.Checks.{not-opened}
+use Rattle.demands.proofs.Demand2.{round-trip, sealed-passes}
 use Rattle.there_and_back.specs.Promise.{ThereAndBack}
 use Rattle.there_and_back.specs.There.{bodyLength, reportFor, outFor}
 
@@ -90,16 +92,16 @@ module _ {keys : RecordKeysCbc} {seq type : ℕ} {version iv text r : List ℕ} 
 
     -- too little room: the opening refuses
     no-room : (o : List ℕ) → length o < bodyLength (length text) → startAnswer (length (g .r)) (length o) ≡ NoRoom
-    unfolding startAnswer
     no-room o h =
-        rw (← length-cut, length-is, sealed-size (length text) (sizes .0), lt-ltb (length o) (bodyLength (length text)) h)
+        let c = sealed-passes (length text) (bodyLength (length text)) (sizes .0) (omega arith) in
+        rw (← length-cut, length-is) (not-opened (NotOpened.no-room (c .least) (c .whole) (c .most) h))
 
     -- room: the round trip
     back : Block iv → Bytes text → (o : List ℕ) → bodyLength (length text) ≤ length o
         → ourOpener g o ≡ (record { answer = Done; length = length text; count = totalSteps (bodyLength (length text)) }, laid text (bodyLength (length text)) o)
     unfolding RoundTrip
     back hiv bytes o h =
-        rw (p .result, p .output) (round-trip keys seq type version iv text r o bytes hiv (sizes .0) (sizes .1) h)
+        rw (p .result, p .output) (round-trip keys seq type version iv text r o bytes hiv (record { most = sizes .0; fits = sizes .1 }) h)
 
     -- so what opening promises is what is promised here
     pub sealed-and-opened : Block iv → Bytes text → {o : List ℕ} {report : Opened} {o′ : List ℕ}
