@@ -1,11 +1,13 @@
 /* Noustrel: the record layer of TLCP (GB/T 38636-2020) with SM4-CBC, its hash, MAC, cipher and key schedule. C99 or C++.
  *
- * Every call ends, keeps nothing afterwards, allocates nothing and uses nothing but the spans it is given; calls on
- * different spans may run at the same time. A span is a pointer and its length in bytes. What a call leaves in a span
- * that it may write is said for every answer; it writes nowhere else.
+ * Every call ends, allocates nothing, and keeps nothing from call to call: it reads and writes the spans that it is given
+ * and its own stack, which it does not wipe, so that parts of keys and texts may stay there. Calls on different spans may
+ * run at the same time. A span is a pointer and its length in bytes. What a call leaves in a span that it may write is said
+ * for every answer; it writes nowhere else.
  *
  * The caller's duties, which no call can test:
  * - A pointer is not null, even at length 0, is aligned for its type, and its span is really as long as said.
+ * - What a call may read, and what it may write too, has been written before: clear a new output once.
  * - What a call may write (a pointer without const) overlaps nothing else that the same call is given.
  * - Nobody else touches these spans, or a hash state, while a call runs.
  * - An IV is fresh and cannot be guessed: 16 bytes of the system's random source for each record.

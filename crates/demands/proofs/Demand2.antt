@@ -33,7 +33,6 @@ use Rattle.opening.specs.Given.{Given, size, decrypted, tagIn, accepted, answer
 use Rattle.demands.specs.Checks.{Openable}
 use Rattle.demands.specs.Openers.{ourSealer, ourOpener, laid, blank, StatedRecord, SealRefusals, RoundTrip, IsBody, Exact, ExactAcceptance, OpenRefusals, Demand2, CallsAlike}
 use Rattle.demands.proofs.Checks.{passes-checks, not-sealed, not-sealed-answer}
-use Rattle.demands.proofs.Demand3.{zeros-in-front}
 use Rattle.demands.proofs.OneCall.{refused}
 
 -- ---- sealing
@@ -215,7 +214,7 @@ unfolding deprotected
 count-is-T g o checks = rw (passes-checks checks)
 
 -- a record that is not answered 0 is not accepted
-not-done : (g : Given) (o : List ℕ) → Openable (length (g .r)) (length o) → (ourOpener g o .0 .answer ≡ Done → ⊥) → accepted g ≡ false
+pub not-done : (g : Given) (o : List ℕ) → Openable (length (g .r)) (length o) → (ourOpener g o .0 .answer ≡ Done → ⊥) → accepted g ≡ false
 unfolding deprotected answerIn
 not-done g o checks h = by (accepted g) (rw (passes-checks checks) at h)
   where
@@ -234,8 +233,7 @@ calls-alike =
           let y = refuses g o c (not-done g o c f) in
           let z = refuses h q d (not-done h q d u) in (
             ap (λ (x : Opened × List ℕ). x .0) y ∙ (rw n) ∙ sym (ap (λ (x : Opened × List ℕ). x .0) z),
-            ap (λ (x : Opened × List ℕ). take (size g) (x .1)) y
-                ∙ (rw n (zeros-in-front (size h) (drop (size h) o) (drop (size h) q)))
-                ∙ sym (ap (λ (x : Opened × List ℕ). take (size h) (x .1)) z),
+            ap (λ (x : Opened × List ℕ). x .1) y,
+            ap (λ (x : Opened × List ℕ). x .1) z,
           );
     }

@@ -3,12 +3,11 @@
 use mathlib.Core.Bool.{Bool, true, false, cond, not, _&&_}
 use mathlib.Core.List.{List, _++_}
 use mathlib.Core.Path.{_≡_, refl, sym, ap, ap₂, _∙_}
-use Prim.Native.Nat.{ℕ, zero, suc, _+_, _-_, _≤_}
+use Prim.Native.Nat.{ℕ, zero, suc, _+_, _-_, _≤_, _<_}
 use native.Mathlib.Omega.{arith}
 use borrow.Author.Tests.{ltb-true, ltb-false, lt-leb}
 use lib.Dec.{leb, ltb}
-use lib.ListN.{length, take, drop, replicate, length-replicate}
-use lib.Seq.{take-at}
+use lib.ListN.{length, take, drop, replicate}
 use Rattle.answers.specs.Answers.{Done, BadRecord, BadState, Ended}
 use Rattle.words.specs.Lists.{agree}
 use Rattle.sm3.specs.Standard.{bytesOf}
@@ -19,7 +18,7 @@ use Rattle.verdict.specs.Verdict.{verdictOf}
 use Rattle.steps.specs.declared.OpeningCbc.{OpeningCbc}
 use Rattle.steps.specs.declared.Stepped.{Stepped}
 use Rattle.steps.specs.State.{report, endedWith, allZero, startAnswer}
-use Rattle.steps.specs.Step.{broken, verdict, reportBy, stepped}
+use Rattle.steps.specs.Step.{broken, verdict, reportBy, outputBy, stepped, outputAfter}
 use Rattle.steps.specs.Work.{Work, workAt}
 use Rattle.steps.proofs.Sound.{sound, unbroken, one-more}
 use Rattle.opening.specs.Closed.{reportAfter}
@@ -30,7 +29,7 @@ use Rattle.opening.proofs.Output.{out-end, length-out}
 use Rattle.opening.proofs.Refused.{refused-start, refused-step, ended-step}
 use Rattle.opening.proofs.Turn.{report-before, report-end}
 use Rattle.demands.specs.Checks.{NotOpened}
-use Rattle.demands.specs.Steppers.{ours, afterBy, Place, placeOf, placeAfter, Passes, Pair, SamePlace, SameCount, WorkAsDefined, RefusalsAlike, StepsTooMany, RefusedStart, InRange, Refusals7And8, Demand3}
+use Rattle.demands.specs.Steppers.{ours, afterBy, told, Place, placeOf, placeAfter, Passes, Pair, SamePlace, SameReports, SameCount, WorkAsDefined, RefusalsAlike, StepsTooMany, RefusedStart, InRange, EveryStep, Demand3}
 use Rattle.demands.proofs.Checks.{passes-checks, not-opened, not-opened-answer}
 use Rattle.demands.proofs.Reached.{as-defined, T, place-runs, place-over, same-size, in-lockstep}
 use Rattle.demands.proofs.Stepping.{places-agree, answer-7, answer-8}
@@ -49,6 +48,21 @@ pub same-work : (g h : Given) (o q : List ℕ) → Pair g h o q → (k : ℕ)
     workAt (a .n) (a .done) ≡ workAt (b .n) (b .done)
 unfolding SamePlace
 same-work g h o q p k = ap (λ (x : Place). workAt (x .n) (x .done)) (same-place g h o q p k)
+
+-- ---- same reports
+
+-- before step T the report is that of the closed form: answer 0, length 0 and the steps done
+report-runs : (g : Given) (o : List ℕ) → Passes g o → (k : ℕ) → k < T g
+    → told (afterBy ours g o k .0) ≡ record { answer = Done; length = 0; count = k }
+report-runs g o p k h =
+    ap (λ (y : Stepped × List ℕ). told (y .0)) (as-defined g o p k (omega arith)) ∙ ap told (report-before g k h)
+
+-- so both report the same
+pub same-reports : SameReports ours
+unfolding SameReports
+same-reports g h o q p k b =
+    let c : k < T h = rw (same-size g h o q p) at b in
+    report-runs g o (p .first) k b ∙ sym (report-runs h q (p .second) k c)
 
 -- ---- same count
 
@@ -112,10 +126,6 @@ refused-end g o p h =
     let n = not-accepted g (λ a. h (ap (λ (y : Stepped × List ℕ). y .0 .answer) e ∙ a)) in
     e ∙ rw (n .0, n .1, n .2)
 
--- the zeros in front do not depend on what stands behind them
-pub zeros-in-front : (n : ℕ) (x y : List ℕ) → take n (replicate n 0 ++ x) ≡ take n (replicate n 0 ++ y)
-zeros-in-front n x y = rw (take-at (replicate n 0) x n (length-replicate n 0), take-at (replicate n 0) y n (length-replicate n 0))
-
 -- two refused openings with records of equal length have the sizes in common
 pub refusals-alike : RefusalsAlike ours
 unfolding RefusalsAlike
@@ -123,7 +133,7 @@ refusals-alike g h o q p first second =
     let a = refused-end g o (p .first) first in
     let b = refused-end h q (p .second) second in
     let n = same-size g h o q p in
-    (rw (a, b, n), rw (a, b, n) (zeros-in-front (size h) (drop (size h) o) (drop (size h) q)))
+    (rw (a, b, n), ap (λ (y : Stepped × List ℕ). y .1) a, ap (λ (y : Stepped × List ℕ). y .1) b)
 
 -- ---- steps too many
 
@@ -188,7 +198,7 @@ refused-start-7 g o answer n = record { start = first-refused g o answer n; step
 
 module _ (s : OpeningCbc) (r room : ℕ) where
   -- an opening that is not broken is in its ranges
-  in-range : broken s r room ≡ false → InRange s r room
+  pub in-range : broken s r room ≡ false → InRange s r room
   in-range e =
       let f = sound s r room e in
       record {
@@ -203,7 +213,7 @@ module _ (s : OpeningCbc) (r room : ℕ) where
       }
 
   -- and one in its ranges is not broken
-  not-broken : InRange s r room → broken s r room ≡ false
+  pub not-broken : InRange s r room → broken s r room ≡ false
   not-broken f =
       unbroken s r room
       (record {
@@ -253,13 +263,22 @@ works s r o b e =
     ap (λ (t : Bool). cond t (report s BadState 0 0) (cond (s .ended) (report s Ended 0 0) work)) b
     ∙ ap (λ (t : Bool). cond t (report s Ended 0 0) work) e
 
--- so 7 and 8 are given exactly there
-pub refusals-7-and-8 : Refusals7And8 ours
-unfolding Refusals7And8
-refusals-7-and-8 s r o =
+-- and writes what its work says
+writes : (s : OpeningCbc) (r o : List ℕ) → broken s (length r) (length o) ≡ false → s .ended ≡ false
+    → outputAfter s r o ≡ outputBy (workAt (s .n) (s .done)) s r o
+unfolding outputAfter
+writes s r o b e = rw (b, e)
+
+-- so each step is defined
+pub every-step : EveryStep ours
+unfolding EveryStep
+every-step s r o =
     record {
       seven = λ out. answer-7 s r o (out-of-range s (length r) (length o) out);
       eight = λ f e. answer-8 s r o (not-broken s (length r) (length o) f) e;
+      works = λ f e.
+          let b = not-broken s (length r) (length o) f in
+          ap₂ (λ (x : Stepped) (y : List ℕ). (x, y)) (works s r o b e) (writes s r o b e);
       neither = λ f e. rw (works s r o (not-broken s (length r) (length o) f) e) (work-answers (workAt (s .n) (s .done)) s o);
     }
 
@@ -268,10 +287,11 @@ pub demand-3 : Demand3 ours
 demand-3 =
     record {
       same-place = same-place;
+      same-reports = same-reports;
       same-count = same-count;
       work-as-defined = work-as-defined;
       refusals-alike = refusals-alike;
       steps-too-many = steps-too-many;
       refused-start = refused-start-7;
-      refusals-7-and-8 = refusals-7-and-8;
+      every-step = every-step;
     }

@@ -1,6 +1,6 @@
 -- The promises of `noustrel_seal` and `noustrel_open`, with keys and IV of the right sizes, are the equations of our sealer and our
 -- opener; the demands follow of every outcome that they admit. Assumes nothing.
-use mathlib.Core.Bool.{Bool, true, false, _&&_}
+use mathlib.Core.Bool.{true, false, _&&_}
 use mathlib.Core.List.{List}
 use mathlib.Core.Path.{_≡_, refl, sym, ap, subst, _∙_}
 use Prim.Native.Nat.{ℕ, _-_}
@@ -8,7 +8,7 @@ use borrow.Author.Tests.{eqb-true, eq-eqb}
 use lib.ListN.{length, take}
 use Rattle.answers.specs.Answers.{Done, WrongSize}
 use Rattle.words.specs.Bytes.{be}
-use Rattle.words.proofs.Tests.{both}
+use Rattle.words.proofs.Tests.{both, untrue}
 use Rattle.record.specs.declared.Sealed.{Sealed}
 use Rattle.record.specs.Limits.{IV-LEN}
 use Rattle.sizes.specs.Sizes.{totalSteps}
@@ -33,11 +33,6 @@ unfolding keySizes has
 true-sizes mac enc e =
     let a = both (has 32 mac) (has 16 enc) e in
     record { mac-size = eqb-true (length mac) 32 (a .0); enc-size = eqb-true (length enc) 16 (a .1) }
-
--- a test that can't be true is false
-untrue : (t : Bool) → (t ≡ true → ⊥) → t ≡ false
-untrue true h = absurd (h refl)
-untrue false h = refl
 
 -- ---- the functions
 
@@ -113,8 +108,8 @@ exported-calls-alike mac enc seq type version r out a x l c mac′ enc′ seq′
     let g′ = givenFrom mac′ enc′ seq′ type′ version′ r′ in
     let y = exported-open mac enc seq type version r out a x l c keys .0 p in
     let z = exported-open mac′ enc′ seq′ type′ version′ r′ out′ a′ x′ l′ c′ keys′ .0 q in
-    subst (λ (w : Opened × List ℕ). BothRefuse g g′ w (openedTo a′ l′ c′ x′)) (sym y)
-    (subst (BothRefuse g g′ (ourOpener g out)) (sym z) (calls-alike .alike g g′ out out′ same h h′))
+    subst (λ (w : Opened × List ℕ). BothRefuse g g′ out out′ w (openedTo a′ l′ c′ x′)) (sym y)
+    (subst (BothRefuse g g′ out out′ (ourOpener g out)) (sym z) (calls-alike .alike g g′ out out′ same h h′))
 
 -- ---- wrong sizes
 

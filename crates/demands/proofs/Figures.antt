@@ -1,13 +1,13 @@
 -- The figures at the edges, by one theorem over the list: a number is worked out, and the padding of a body is judged by its last bytes
 -- alone, whatever stands in front of them. Assumes nothing.
-use mathlib.Core.Bool.{true, false}
-use mathlib.Core.List.{List, _++_}
-use mathlib.Core.Path.{_≡_, refl, _∙_}
+use mathlib.Core.Bool.{Bool, true, false}
+use mathlib.Core.List.{List, [], _∷_, _++_, append-assoc}
+use mathlib.Core.Path.{_≡_, refl, sym, ap, _∙_}
 use Prim.Native.Nat.{ℕ, suc, _+_, _-_, _≤_, _<_}
 use native.Mathlib.Omega.{arith}
 use borrow.Author.Tests.{lt-leb}
 use lib.Dec.{leb, lit≤, lit<}
-use lib.ListN.{length, drop, replicate, length-append, length-replicate, getD-replicate}
+use lib.ListN.{length, getD, drop, replicate, length-append, length-replicate, getD-replicate}
 use lib.Seq.{drop-at, getD-append-add}
 use Rattle.words.specs.Bytes.{number}
 use Rattle.words.specs.Lists.{table}
@@ -15,7 +15,7 @@ use Rattle.words.proofs.Tests.{left-fails}
 use Rattle.sm4.specs.Standard.{ck, CK}
 use Rattle.record.specs.Opened.{lastByte, padFits, padRun, goodPad, held}
 use Rattle.record.specs.Standard.{sealedLength}
-use Rattle.record.proofs.Accepts.{good-padding, held-good, held-bad}
+use Rattle.record.proofs.Accepts.{good-parts, good-padding, held-good, held-bad}
 use Rattle.sizes.specs.Sizes.{macSteps, totalSteps}
 use Rattle.demands.specs.Figures.{Figure, figures, Says, Each}
 
@@ -58,26 +58,45 @@ good front p h f n =
     let is-good = good-padding b p (last-ending f p p) (omega (arith, length-ending f p p)) (drop-at f (replicate (suc p) p) (length b - (p + 1)) at) in
     (is-good, held-good b is-good ∙ omega (arith, length-ending f p p, last-ending f p p))
 
+-- a zero and only p bytes of value p, which say that there is one more, are no padding
+spoiled : (front q l : ℕ) → front + q + 2 - 33 ≡ l → Says (Figure.spoiled front (suc q) l)
+unfolding Says
+spoiled front q l e f n = by (goodPad b) refl
+  where
+    b : List ℕ
+    b = f ++ (0 ∷ replicate (suc q) (suc q))
+
+    long : length (f ++ (0 ∷ replicate (suc q) (suc q))) ≡ front + q + 2
+    long = length-append f (0 ∷ replicate (suc q) (suc q)) ∙ omega (arith, length-replicate q (suc q), n)
+
+    last : lastByte (f ++ (0 ∷ replicate (suc q) (suc q))) ≡ suc q
+    last =
+        ap lastByte (sym (append-assoc f (0 ∷ []) (replicate (suc q) (suc q)))) ∙ last-ending (f ++ (0 ∷ [])) q (suc q)
+
+    by : (t : Bool) → goodPad (f ++ (0 ∷ replicate (suc q) (suc q))) ≡ t
+        → (goodPad (f ++ (0 ∷ replicate (suc q) (suc q))) ≡ false) × (held (f ++ (0 ∷ replicate (suc q) (suc q))) ≡ l)
+    by false g = (g, held-bad (f ++ (0 ∷ replicate (suc q) (suc q))) g ∙ omega (arith, long, e))
+    by true g =
+        let d = f ++ (0 ∷ replicate (suc q) (suc q)) in
+        let run = rw last at (good-parts d g .1) in
+        let at : length f ≡ length d - (suc q + 1) = omega (arith, long, n) in
+        let cut = drop-at f (0 ∷ replicate (suc q) (suc q)) (length d - (suc q + 1)) at in
+        absurd (omega (arith, ap (λ (l : List ℕ). getD l 0 0) (sym cut ∙ run)))
+
 -- ---- the list
 
 -- each padding by its law, every other figure by working it out
 pub figures-hold : Each figures
 unfolding Each Says sealedLength totalSteps macSteps CK ck table number
 figures-hold =
-    let constants : Each (drop 15 figures) = (refl, (refl, tt)) in
-    let padding : Each (drop 8 figures) = (
-      good 32 0x0f (lit≤ tt),
-      (
-        bad 47 0 0x10 15 (lit< tt) refl,
-        (
-          bad 31 16 0x10 15 (lit< tt) refl,
-          (
-            good 32 0xff (lit≤ tt),
-            (bad 271 0 0xff 239 (lit< tt) refl, (bad 16 255 0xff 239 (lit< tt) refl, (good 16431 0 (lit≤ tt), constants))),
-          ),
-        ),
-      ),
-    )
-    in
+    let limits : Each (drop 29 figures) = (refl, (refl, (refl, tt))) in
+    let answers : Each (drop 19 figures) =
+    (refl, (refl, (refl, (refl, (refl, (refl, (refl, (refl, (refl, (refl, limits)))))))))) in
+    let constants : Each (drop 17 figures) = (refl, (refl, answers)) in
+    let broken : Each (drop 15 figures) = (spoiled 32 14 15 refl, (spoiled 32 254 255 refl, constants)) in
+    let long : Each (drop 11 figures) =
+    (good 32 0xff (lit≤ tt), (bad 271 0 0xff 239 (lit< tt) refl, (bad 16 255 0xff 239 (lit< tt) refl, (good 16431 0 (lit≤ tt), broken)))) in
+    let padding : Each (drop 8 figures) =
+    (good 32 0x0f (lit≤ tt), (bad 47 0 0x10 15 (lit< tt) refl, (bad 31 16 0x10 15 (lit< tt) refl, long))) in
     let steps : Each (drop 4 figures) = (refl, (refl, (refl, (refl, padding)))) in
     (refl, (refl, (refl, (refl, steps))))

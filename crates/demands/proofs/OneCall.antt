@@ -13,9 +13,9 @@ use Rattle.opening.specs.Deprotected.{deprotected, outputOf}
 use Rattle.opening.specs.Given.{Given}
 use Rattle.demands.specs.Checks.{NotOpened}
 use Rattle.demands.specs.Machine.{EndsAt}
-use Rattle.demands.specs.OneCall.{told, OneCall, Held, machine, heldBy, LoopIsSteps, UntilIsSteps, SameTurns}
+use Rattle.demands.specs.OneCall.{OneCall, Held, machine, heldBy, LoopIsSteps, UntilIsSteps, SameTurns}
 use Rattle.demands.specs.Openers.{ourOpener}
-use Rattle.demands.specs.Steppers.{ours, afterBy, Place, placeAfter, Passes, SameCount, RefusedStart}
+use Rattle.demands.specs.Steppers.{ours, afterBy, told, Place, placeAfter, Passes, SameCount, RefusedStart}
 use Rattle.demands.proofs.Checks.{passes-checks, not-opened, not-opened-answer}
 use Rattle.demands.proofs.Demand3.{at-end, same-count, refused-start-7}
 use Rattle.demands.proofs.Machine.{loop-is-run, same-call, until-ends}

@@ -1,5 +1,5 @@
 -- What meets the predicates is ours: they say what is done in every case, and one of the cases always applies. Assumes nothing.
-use mathlib.Core.Bool.{Bool, true, false}
+use mathlib.Core.Bool.{Bool, true, false, false≢true}
 use mathlib.Core.List.{List}
 use mathlib.Core.Path.{_≡_, refl, sym, ap, _∙_}
 use Prim.Native.Nat.{ℕ, zero, suc, _≤_, _<_}
@@ -11,14 +11,15 @@ use Rattle.answers.specs.Answers.{Ended}
 use Rattle.words.specs.Bytes.{Bytes}
 use Rattle.steps.specs.declared.Stepped.{Stepped}
 use Rattle.steps.specs.State.{report}
+use Rattle.steps.specs.Step.{broken}
 use Rattle.opening.specs.Given.{Given}
 use Rattle.demands.specs.Checks.{Openable, NotOpened}
-use Rattle.demands.specs.OnlyOurs.{OnlyOurSealer, OnlyOurOpener, OnlyOurSteps}
+use Rattle.demands.specs.OnlyOurs.{OnlyOurSealer, OnlyOurOpener, OnlyOurSteps, OnlyOurStep}
 use Rattle.demands.specs.Openers.{Opener, ourSealer, ourOpener, StatedRecord, SealRefusals, Exact, ExactAcceptance, OpenRefusals}
-use Rattle.demands.specs.Steppers.{Stepper, ours, afterBy, Passes, WorkAsDefined, StepsTooMany, RefusedStart}
+use Rattle.demands.specs.Steppers.{Stepper, ours, afterBy, Passes, WorkAsDefined, StepsTooMany, RefusedStart, InRange, EveryStep}
 use Rattle.demands.proofs.Checks.{SealCase, seal-case, OpenCase, open-case}
 use Rattle.demands.proofs.Demand2.{stated-record, seal-refusals, Verdict, verdict, exact-acceptance, open-refusals}
-use Rattle.demands.proofs.Demand3.{work-as-defined, steps-too-many, refused-start-7}
+use Rattle.demands.proofs.Demand3.{work-as-defined, steps-too-many, refused-start-7, in-range, not-broken, every-step}
 use Rattle.demands.proofs.Reached.{T}
 
 -- a sealer: the text is sealed or refused
@@ -77,3 +78,19 @@ only-our-steps S work many refused g o v k = by (open-case (length (g .r)) (leng
     by : OpenCase (length (g .r)) (length o) → afterBy S g o k ≡ afterBy ours g o k
     by (OpenCase.openable c) = opened c (ltb (T g) k) refl
     by (OpenCase.refused a n) = not-opened a n k
+
+-- a step: the opening is out of its ranges, or has ended, or is worked on
+pub only-our-step : OnlyOurStep
+unfolding OnlyOurStep EveryStep
+only-our-step S every s r o = by (broken s (length r) (length o)) refl (s .ended) refl
+  where
+    by : (a : Bool) → broken s (length r) (length o) ≡ a → (b : Bool) → s .ended ≡ b → S .step s r o ≡ ours .step s r o
+    by true e b f =
+        let out : InRange s (length r) (length o) → ⊥ = λ i. false≢true (sym (not-broken s (length r) (length o) i) ∙ e) in
+        every s r o .seven out ∙ sym (every-step s r o .seven out)
+    by false e true f =
+        let i = in-range s (length r) (length o) e in
+        every s r o .eight i f ∙ sym (every-step s r o .eight i f)
+    by false e false f =
+        let i = in-range s (length r) (length o) e in
+        every s r o .works i f ∙ sym (every-step s r o .works i f)

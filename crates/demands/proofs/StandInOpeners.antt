@@ -1,7 +1,7 @@
 -- The stand-ins for a sealer and an opener do not meet demand 2: a text that was sealed must come back, and two texts differ.
 -- Assumes nothing.
 use mathlib.Core.List.{List, [], _++_}
-use mathlib.Core.Path.{_≡_, refl, ap, _∙_}
+use mathlib.Core.Path.{_≡_, refl, sym, ap, _∙_}
 use Prim.Native.Nat.{ℕ, _+_, _*_, _/_, _≤_}
 use native.Mathlib.Omega.{arith}
 use borrow.Author.Tests.{lt-ltb}
@@ -11,6 +11,7 @@ use Rattle.answers.specs.Answers.{Done, NoRoom, BadRecord}
 use Rattle.words.specs.Bytes.{Bytes}
 use Rattle.words.specs.Lists.{put}
 use Rattle.words.proofs.Bytes.{bytes-append}
+use Rattle.words.proofs.Lists.{put-fits}
 use Rattle.words.proofs.Puts.{part-put}
 use Rattle.sm4.specs.Block.{Block}
 use Rattle.sm4.specs.Standard.{encrypt, decrypt, roundKeys}
@@ -28,9 +29,10 @@ use Rattle.sizes.specs.Sizes.{totalSteps}
 use Rattle.opening.specs.Deprotected.{deprotected}
 use Rattle.opening.specs.Given.{Given, size, decrypted}
 use Rattle.demands.specs.Checks.{NotSealed, Openable, NotOpened}
-use Rattle.demands.specs.Openers.{Opener, ourSealer, blank, StatedRecord, SealRefusals, RoundTrip, ExactAcceptance, OpenRefusals}
-use Rattle.demands.specs.StandIns.{refusesAll, fixedText, leaks, tellsLength, roomFirst, sealsNothing, sealsAnyLength, copies, copiesBack}
-use Rattle.demands.proofs.BadRecords.{zeros, length-zeros, bytes-zeros, block-zeros, holding, decrypted-holding, bytes-holding, length-holding, checks-holding, badPadding, length-bad, bytes-bad, last-bad, bad-refused}
+use Rattle.demands.specs.Openers.{Opener, ourSealer, blank, StatedRecord, SealRefusals, RoundTrip, ExactAcceptance, OpenRefusals, CallsAlike}
+use Rattle.demands.specs.StandIns.{refusesAll, fixedText, leaks, leaksBehind, tellsLength, roomFirst, sealsNothing, sealsAnyLength, copies, copiesBack}
+use Rattle.demands.proofs.BadRecords.{zeros, length-zeros, bytes-zeros, block-zeros, holding, decrypted-holding, bytes-holding, length-holding, checks-holding, badPadding, length-bad, bytes-bad, last-bad, bad-refused, other, badMac, length-mac, bytes-mac, mac-refused}
+use Rattle.demands.proofs.Figures.{last-ending}
 use Rattle.demands.proofs.Demand2.{sealedGiven, decrypted-sealed, sealed-checks, refuses, exact-acceptance}
 
 -- a sealed record is bytes
@@ -144,17 +146,25 @@ size-bad : size bad ≡ 48
 unfolding size
 size-bad = omega (arith, length-holding badPadding bytes-bad length-bad)
 
--- LEAKS. The last of its bytes would be zero.
-pub leaks-fails : ExactAcceptance leaks → ⊥
+-- the last byte of the body's place would be zero, and it is not
+leaks-shows : leaks bad (zeros 48) .1 ≡ blank (size bad) (zeros 48) → ⊥
 unfolding lastByte
-leaks-fails exact =
+leaks-shows e =
     let d = decrypted-holding badPadding bytes-bad length-bad in
     let left : leaks bad (zeros 48) .1 ≡ badPadding ++ drop (size bad) (zeros 48) = rw (six, d) in
     let byte : getD (badPadding ++ drop (size bad) (zeros 48)) 47 0 ≡ 0x10 =
     List·getD-append badPadding (drop (size bad) (zeros 48)) 0 47 (omega (arith, length-bad)) ∙ (rw length-bad at last-bad) in
     let zero : getD (blank (size bad) (zeros 48)) 47 0 ≡ 0 = rw size-bad in
-    let e = ap (λ (y : Opened × List ℕ). getD (y .1) 47 0) (shows-nothing leaks exact six) in
-    omega (arith, e, ap (λ (l : List ℕ). getD l 47 0) left, byte, zero)
+    omega (arith, ap (λ (l : List ℕ). getD l 47 0) e, ap (λ (l : List ℕ). getD l 47 0) left, byte, zero)
+
+-- LEAKS. So it does not accept exactly, nor do its refusals look alike.
+pub leaks-fails : ExactAcceptance leaks → ⊥
+leaks-fails exact = leaks-shows (ap (λ (y : Opened × List ℕ). y .1) (shows-nothing leaks exact six))
+
+pub leaks-alike-fails : CallsAlike leaks → ⊥
+leaks-alike-fails alike =
+    let not-done : deprotected bad (length (zeros 48)) .answer ≡ Done → ⊥ = λ e. omega (arith, e, six) in
+    leaks-shows (alike .alike bad bad (zeros 48) (zeros 48) refl bad-checks bad-checks not-done not-done .1)
 
 -- TELLS THE LENGTH. It would report 0.
 pub tellsLength-fails : ExactAcceptance tellsLength → ⊥
@@ -162,6 +172,56 @@ tellsLength-fails exact =
     let e = ap (λ (y : Opened × List ℕ). y .0 .length) (shows-nothing tellsLength exact six) in
     let told : tellsLength bad (zeros 48) .0 .length ≡ lastByte (decrypted bad) = rw six in
     omega (arith, told, e, ap lastByte (decrypted-holding badPadding bytes-bad length-bad), last-bad)
+
+-- nor do its refusals look alike: the one body ends in 0x10, the other in 0
+pub tellsLength-alike-fails : CallsAlike tellsLength → ⊥
+unfolding badMac
+tellsLength-alike-fails alike =
+    let g = holding badMac in
+    let o = zeros 48 in
+    let c = checks-holding badMac bytes-mac length-mac o (omega (arith, length-zeros 48)) in
+    let six′ : deprotected g (length o) .answer ≡ BadRecord =
+    ap (λ (y : Opened × List ℕ). y .0 .answer) (refuses g o c mac-refused) in
+    let same = length-holding badPadding bytes-bad length-bad ∙ sym (length-holding badMac bytes-mac length-mac) in
+    let e = alike .alike bad g o o same bad-checks c (λ e. omega (arith, e, six)) (λ e. omega (arith, e, six′)) in
+    let told : tellsLength bad o .0 .length ≡ lastByte (decrypted bad) = rw six in
+    let told′ : tellsLength g o .0 .length ≡ lastByte (decrypted g) = rw six′ in
+    omega (
+      arith,
+      ap (λ (x : Opened). x .length) (e .0),
+      told,
+      told′,
+      ap lastByte (decrypted-holding badPadding bytes-bad length-bad),
+      ap lastByte (decrypted-holding badMac bytes-mac length-mac),
+      last-bad,
+      last-ending (zeros 15 ++ other) 0 0,
+    )
+
+-- LEAKS BEHIND. What stands behind the body's place would be as found, in an output of 96 bytes.
+pub leaksBehind-fails : CallsAlike leaksBehind → ⊥
+unfolding lastByte
+leaksBehind-fails alike =
+    let o : List ℕ = replicate 96 0 in
+    let c = checks-holding badPadding bytes-bad length-bad o (lit≤ tt) in
+    let done : deprotected bad 96 .answer ≡ BadRecord = ap (λ (y : Opened × List ℕ). y .0 .answer) (refuses bad o c bad-refused) in
+    let not-done : deprotected bad 96 .answer ≡ Done → ⊥ = λ e. omega (arith, e, done) in
+    let e = alike .alike bad bad o o refl c c not-done not-done .1 in
+    let behind : leaksBehind bad o .1 ≡ replicate 48 0 ++ put 0 badPadding (replicate 48 0) =
+    rw (done, size-bad, decrypted-holding badPadding bytes-bad length-bad) in
+    let laid : put 0 badPadding (replicate 48 0) ≡ badPadding ++ drop (0 + length badPadding) (replicate 48 0) =
+    put-fits 0 badPadding (replicate 48 0) (omega (arith, length-bad)) in
+    let byte : getD (badPadding ++ drop (0 + length badPadding) (replicate 48 0)) 47 0 ≡ 0x10 =
+    List·getD-append badPadding (drop (0 + length badPadding) (replicate 48 0)) 0 47 (omega (arith, length-bad))
+    ∙ (rw length-bad at last-bad) in
+    let zero : getD (blank (size bad) o) 95 0 ≡ 0 = rw size-bad in
+    omega (
+      arith,
+      ap (λ (l : List ℕ). getD l 95 0) e,
+      ap (λ (l : List ℕ). getD l 95 0) behind,
+      ap (λ (l : List ℕ). getD l 47 0) laid,
+      byte,
+      zero,
+    )
 
 -- ---- refusals before all work
 

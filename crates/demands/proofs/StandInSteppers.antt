@@ -1,21 +1,25 @@
 -- The stand-ins among the steppers do not meet what is asked: two are refuted by opening one record into two outputs that differ in
 -- one byte, one by its count after step 1, one by a record with bad padding beside one with a wrong MAC, one by a step too many.
 -- Assumes nothing.
-use mathlib.Core.Bool.{Bool, true, false, cond}
+use mathlib.Core.Bool.{Bool, true, false, cond, _&&_}
 use mathlib.Core.List.{List, _∷_, _++_}
 use mathlib.Core.Path.{_≡_, refl, sym, ap, ap₂, _∙_}
 use Prim.Native.Nat.{ℕ, zero, suc, _-_, _≤_}
 use native.Mathlib.Omega.{arith}
-use lib.Dec.{eqb, lit≤}
+use lib.Dec.{eqb, lit≤, lit<}
 use lib.ListN.{length, take, drop, replicate, getD}
 use lib.Seq.{take-at, drop-at, length-take-le}
 use Rattle.answers.specs.Answers.{Done, BadRecord, TooBig}
 use Rattle.words.specs.Bytes.{Bytes}
 use Rattle.record.specs.Opened.{goodPad}
-use Rattle.sizes.specs.Sizes.{totalSteps}
+use Rattle.words.specs.Lists.{put}
+use Rattle.sizes.specs.Sizes.{macSteps, totalSteps}
+use Rattle.steps.specs.declared.OpeningCbc.{OpeningCbc}
 use Rattle.steps.specs.declared.Stepped.{Stepped}
-use Rattle.steps.specs.State.{report, allZero, started, begun}
-use Rattle.steps.specs.Step.{stepped}
+use Rattle.steps.specs.State.{zeroWords, report, allZero, started, begun}
+use Rattle.steps.specs.Step.{outputBy, stepped}
+use Rattle.steps.specs.Work.{workAt}
+use Rattle.opening.specs.declared.Opened.{Opened}
 use Rattle.opening.specs.Closed.{running, reportAfter, written, outAfter}
 use Rattle.opening.specs.Deprotected.{bodyAfter, outputOf}
 use Rattle.opening.specs.Given.{Given, size, decrypted, accepted, answerIn}
@@ -24,12 +28,12 @@ use Rattle.opening.proofs.Fields.{mark-read}
 use Rattle.opening.proofs.Fits.{fits, length-decrypted}
 use Rattle.opening.proofs.Output.{out-before}
 use Rattle.opening.proofs.Turn.{report-before, report-end}
-use Rattle.demands.specs.StandIns.{writesNothing, rushes, ownCount, tellsApart, revives}
-use Rattle.demands.specs.Steppers.{Stepper, ours, afterBy, Passes, Pair, SameCount, WorkAsDefined, RefusalsAlike, StepsTooMany}
+use Rattle.demands.specs.StandIns.{writesNothing, rushes, ownCount, tellsApart, tellsEarly, strays, revives}
+use Rattle.demands.specs.Steppers.{Stepper, ours, afterBy, Passes, Pair, SameReports, SameCount, WorkAsDefined, RefusalsAlike, StepsTooMany, EveryStep}
 use Rattle.demands.proofs.BadRecords.{length-zeros, holding, decrypted-holding, length-holding, checks-holding, badPadding, length-bad, bytes-bad, not-good, bad-refused, badMac, length-mac, bytes-mac, good-mac, mac-refused}
 use Rattle.demands.proofs.Checks.{passes-checks}
 use Rattle.demands.proofs.Demand3.{same-count}
-use Rattle.demands.proofs.Reached.{T, as-defined}
+use Rattle.demands.proofs.Reached.{T, as-defined, same-size}
 
 -- ---- a record that passes the checks
 
@@ -171,6 +175,15 @@ passes-holding : (d : List ℕ) → Bytes d → length d ≡ 48 → Passes (hold
 passes-holding d bytes long =
     record { version = length-zeros 2; checks = checks-holding d bytes long blank (lit≤ tt) }
 
+-- the two bad records are of equal length
+bad-pair : Passes (holding badPadding) blank → Passes (holding badMac) blank → Pair (holding badPadding) (holding badMac) blank blank
+bad-pair p q =
+    record {
+      equal = length-holding badPadding bytes-bad length-bad ∙ sym (length-holding badMac bytes-mac length-mac);
+      first = p;
+      second = q;
+    }
+
 -- TELLS APART. Bad padding would be answered as a wrong MAC is.
 pub tellsApart-fails : RefusalsAlike tellsApart → ⊥
 unfolding RefusalsAlike
@@ -183,14 +196,97 @@ tellsApart-fails alike =
     let six : afterBy tellsApart (holding badMac) blank (T (holding badMac)) .0 .answer ≡ BadRecord =
     tells (holding badMac) blank q mac-refused
     ∙ ap (λ (t : Bool). cond t BadRecord TooBig) (ap goodPad (decrypted-holding badMac bytes-mac length-mac) ∙ good-mac) in
-    let same = alike (holding badPadding) (holding badMac) blank blank
-    (record {
-      equal = length-holding badPadding bytes-bad length-bad ∙ sym (length-holding badMac bytes-mac length-mac);
-      first = p;
-      second = q;
-    })
-    (λ e. omega (arith, e, five)) (λ e. omega (arith, e, six)) in
+    let same = alike (holding badPadding) (holding badMac) blank blank (bad-pair p q) (λ e. omega (arith, e, five)) (λ e. omega (arith, e, six)) in
     omega (arith, five, six, ap (λ (s : Stepped). s .answer) (same .0))
+
+-- ---- a mark shown early
+
+-- what it makes of our report
+abbrev early : Stepped → Stepped
+early t = report (t .opening) (t .answer) (cond (t .opening .«pad_ok» && eqb (t .answer) Done) 1 (t .length)) (t .count)
+
+-- after a step it is ours with that report
+early-ours : (g : Given) (o : List ℕ) (k : ℕ)
+    → afterBy tellsEarly g o (suc k) ≡ (early (afterBy ours g o (suc k) .0), afterBy ours g o (suc k) .1)
+unfolding afterBy
+early-ours g o zero = refl
+early-ours g o (suc k) = ap (λ (y : Stepped × List ℕ). tellsEarly .step (y .0 .opening) (g .r) (y .1)) (early-ours g o k)
+
+-- so before the last step the length tells the mark
+early-length : (g : Given) (o : List ℕ) (p : Passes g o) → afterBy tellsEarly g o (T g - 1) .0 .length ≡ cond (goodPad (decrypted g)) 1 0
+unfolding totalSteps running
+early-length g o p =
+    let n : T g - 1 ≡ suc (T g - 2) = omega arith in
+    let e : afterBy ours g o (T g - 1) .0 ≡ report (running g (T g - 1)) Done 0 (T g - 1) =
+    ap (λ (y : Stepped × List ℕ). y .0) (as-defined g o p (T g - 1) (omega arith)) ∙ report-before g (T g - 1) (omega arith) in
+    ap (λ (k : ℕ). afterBy tellsEarly g o k .0 .length) n
+    ∙ ap (λ (y : Stepped × List ℕ). y .0 .length) (early-ours g o (T g - 2))
+    ∙ ap (λ (k : ℕ). early (afterBy ours g o k .0) .length) (sym n)
+    ∙ ap (λ (s : Stepped). early s .length) e
+    ∙ rw (mark-read g (T g - 1) (omega arith)) (by (goodPad (decrypted g)))
+  where
+    by : (t : Bool) → _≡_ {A = ℕ} (cond (t && true) 1 0) (cond t 1 0)
+    by true = refl
+    by false = refl
+
+-- TELLS EARLY. Bad padding and good padding would be reported alike.
+pub tellsEarly-fails : SameReports tellsEarly → ⊥
+unfolding SameReports totalSteps
+tellsEarly-fails same =
+    let p = passes-holding badPadding bytes-bad length-bad in
+    let q = passes-holding badMac bytes-mac length-mac in
+    let k = T (holding badPadding) - 1 in
+    let n = same-size (holding badPadding) (holding badMac) blank blank (bad-pair p q) in
+    let e = ap (λ (x : Opened). x .length) (same (holding badPadding) (holding badMac) blank blank (bad-pair p q) k (omega arith)) in
+    let none : afterBy tellsEarly (holding badPadding) blank k .0 .length ≡ 0 =
+    early-length (holding badPadding) blank p
+    ∙ ap (λ (t : Bool). cond t 1 0) (ap goodPad (decrypted-holding badPadding bytes-bad length-bad) ∙ not-good) in
+    let one : afterBy tellsEarly (holding badMac) blank k .0 .length ≡ 1 =
+    ap (λ (m : ℕ). afterBy tellsEarly (holding badMac) blank (totalSteps m - 1) .0 .length) n
+    ∙ early-length (holding badMac) blank q
+    ∙ ap (λ (t : Bool). cond t 1 0) (ap goodPad (decrypted-holding badMac bytes-mac length-mac) ∙ good-mac) in
+    omega (arith, e, none, one)
+
+-- ---- an opening that no start leads to
+
+-- in its ranges, its padding not yet read, and with an answer in it
+abbrev astray : OpeningCbc
+astray =
+    record {
+      words = zeroWords;
+      kept = zeroWords;
+      «mac_key» = replicate 32 0;
+      «enc_key» = replicate 16 1;
+      seq = 0;
+      «content_type» = 0;
+      version = replicate 2 0;
+      n = 48;
+      total = 8;
+      done = 3;
+      held = 0;
+      «pad_ok» = false;
+      ended = false;
+      answer = 1;
+    }
+
+-- STRAYS. The step that reads the padding would leave the output as found.
+pub strays-fails : EveryStep strays → ⊥
+unfolding EveryStep totalSteps macSteps workAt outputBy put
+strays-fails every =
+    let e = every astray (replicate 64 0) blank .works
+    (record {
+      least = lit≤ tt;
+      most = lit≤ tt;
+      whole = refl;
+      steps = refl;
+      unfinished = λ _. lit< tt;
+      text = lit≤ tt;
+      sized = refl;
+      fits = lit≤ tt;
+    })
+    refl in
+    let byte : _≡_ {A = ℕ} 1 0 = ap (λ (y : Stepped × List ℕ). getD (y .1) 0 0) e in
+    omega arith
 
 -- ---- an ended opening
 

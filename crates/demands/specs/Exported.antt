@@ -78,7 +78,7 @@ ExportedCallsAlike =
     → KeySizes mac enc → KeySizes mac′ enc′ → length r ≡ length r′
     → Openable (length r) (length out) → Openable (length r′) (length out′)
     → OpenedFor mac enc seq type version r out a x l c → OpenedFor mac′ enc′ seq′ type′ version′ r′ out′ a′ x′ l′ c′
-    → BothRefuse (givenFrom mac enc seq type version r) (givenFrom mac′ enc′ seq′ type′ version′ r′)
+    → BothRefuse (givenFrom mac enc seq type version r) (givenFrom mac′ enc′ seq′ type′ version′ r′) out out′
     (openedTo a l c x) (openedTo a′ l′ c′ x′)
 
 -- WRONG SIZES come before all else: 9, length and count 0, the output as found

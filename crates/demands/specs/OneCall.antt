@@ -6,17 +6,11 @@ use Prim.Native.Nat.{ℕ, _≤_}
 use lib.ListN.{length}
 use Rattle.sizes.specs.Sizes.{totalSteps}
 use Rattle.steps.specs.declared.OpeningCbc.{OpeningCbc}
-use Rattle.steps.specs.declared.Stepped.{Stepped}
-use Rattle.opening.specs.declared.Opened.{Opened}
 use Rattle.opening.specs.Given.{Given, size}
 use Rattle.demands.specs.Checks.{Openable, NotOpened}
 use Rattle.demands.specs.Machine.{Machine, loop, until}
 use Rattle.demands.specs.Openers.{Opener}
-use Rattle.demands.specs.Steppers.{Stepper, afterBy, Place, placeOf, placeAfter, Passes, Pair}
-
--- a report without its opening
-abbrev pub told : Stepped → Opened
-told s = record { answer = s .answer; length = s .length; count = s .count }
+use Rattle.demands.specs.Steppers.{Stepper, afterBy, told, Place, placeOf, placeAfter, Passes, Pair}
 
 -- ONE CALL. Where the checks pass, answer, length, count and output are those after the start and T steps; where they do not, those of
 -- the start, and the output is as found.

@@ -112,16 +112,16 @@ pub record Demand2 (seal : Sealer) (opens : Opener) : Type 0 where
 
 -- ---- demand 3 for one call
 
--- two outcomes: if both refuse, the reports and the first n bytes of the outputs are equal
-abbrev pub BothRefuse : Given → Given → Opened × List ℕ → Opened × List ℕ → Type 0
-BothRefuse g h y z =
+-- two outcomes: if both refuse, the reports are equal, and each output has n zeros and the rest as found
+abbrev pub BothRefuse : Given → Given → List ℕ → List ℕ → Opened × List ℕ → Opened × List ℕ → Type 0
+BothRefuse g h o q y z =
     (y .0 .answer ≡ Done → ⊥) → (z .0 .answer ≡ Done → ⊥)
-    → (y .0 ≡ z .0) × (take (size g) (y .1) ≡ take (size h) (z .1))
+    → (y .0 ≡ z .0) × (y .1 ≡ blank (size g) o) × (z .1 ≡ blank (size h) q)
 
 -- CALLS LOOK ALIKE. Of a record that passes the checks the count is T, which follows from its length alone, accepted or refused; and
--- two refusals of records of equal length have equal report and equal first n bytes of the output, whatever else was given.
+-- two refusals of records of equal length have equal reports, and outputs with n zeros and the rest as found, whatever else was given.
 pub record CallsAlike (opens : Opener) : Type 0 where
   pub count : (g : Given) (o : List ℕ) → Openable (length (g .r)) (length o) → opens g o .0 .count ≡ totalSteps (size g)
   pub alike : (g h : Given) (o q : List ℕ) → length (g .r) ≡ length (h .r)
       → Openable (length (g .r)) (length o) → Openable (length (h .r)) (length q)
-      → BothRefuse g h (opens g o) (opens h q)
+      → BothRefuse g h o q (opens g o) (opens h q)

@@ -21,6 +21,7 @@ use Rattle.sm4_sbox.specs.Standard.{Sbox}
 use Rattle.sm4.specs.Standard.{cipherOf, encrypt, decrypt}
 use Rattle.sm4.specs.declared.Sm4Cipher.{Sm4Cipher}
 use Rattle.cbc.specs.Promise.{Enciphered as cbc-Enciphered, Deciphered as cbc-Deciphered}
+use Rattle.hmac.specs.Rfc2104.{B}
 use Rattle.hmac.specs.State.{started as hmac-started, updated as hmac-updated, finalized as hmac-finalized, verified}
 use Rattle.hmac.specs.State.{mac}
 use Rattle.hmac.specs.declared.HmacSm3.{HmacSm3}
@@ -120,7 +121,7 @@ pub record Outcomes : Type 0 where
   pub «cbc::decipher_block_cbc» : (cipher : Sm4Cipher) («record» : List ℕ) (k : ℕ) (out : List ℕ)
       → One (cbc-Deciphered cipher «record» k out)
   -- hmac
-  pub «hmac::xor_pad» : (block : List ℕ) (pad : ℕ) → Equation (xorEach block (replicate 64 pad))
+  pub «hmac::xor_pad» : (block : List ℕ) (pad : ℕ) → Equation (xorEach block (replicate B pad))
   pub «hmac::ct_eq» : (a b : List ℕ) → Equation (bit (agree a b))
   pub «hmac::HmacSm3::new» : (key : List ℕ) → Equation (hmac-started key)
   pub «hmac::HmacSm3::update» : (self : HmacSm3) («data» : List ℕ) → Equation (hmac-updated self «data»)

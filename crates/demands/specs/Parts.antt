@@ -2,19 +2,20 @@
 -- public functions cite. Assumes nothing.
 use mathlib.Core.Bool.{true}
 use mathlib.Core.List.{List, _∷_, _++_}
-use mathlib.Core.Logic.{_↔_}
+use mathlib.Core.Logic.{_↔_, _⊎_}
 use mathlib.Core.Path.{_≡_}
 use Prim.Native.Nat.{ℕ, suc, _+_, _*_, _/_, _%_, _^_, _≤_, _<_}
 use lib.ListN.{length, getD, take, drop, replicate}
-use Rattle.answers.specs.Answers.{Done, WrongSize}
+use Rattle.answers.specs.Answers.{Done, BadState, WrongSize}
 use Rattle.words.specs.Bytes.{be}
 use Rattle.sm3.specs.declared.Sm3.{Sm3}
 use Rattle.sm3.specs.Cutting.{joined, fed, Alike}
 use Rattle.sm3.specs.Standard.{IV, zeros, iteration, bytesOf, SM3}
-use Rattle.sm3.specs.State.{fresh, finalized, hashed}
+use Rattle.sm3.specs.State.{fresh, updated, finalized, hashed}
+use Rattle.hmac.specs.declared.HmacSm3.{HmacSm3}
 use Rattle.hmac.specs.Cutting.{fed as fedMac}
 use Rattle.hmac.specs.Rfc2104.{HMAC}
-use Rattle.hmac.specs.State.{hashBytes, started, verified, mac, finalized as finalizedMac}
+use Rattle.hmac.specs.State.{hashBytes, started, verified, mac, updated as updatedMac, finalized as finalizedMac}
 use Rattle.sm4_sbox.specs.Standard.{Sbox}
 use Rattle.sm4.specs.AnnexA.{AnnexA}
 use Rattle.sm4.specs.Block.{Block}
@@ -41,6 +42,10 @@ pub record Hash : Type 0 where
   pub cut : (ds : List (List ℕ)) → finalized (fed fresh ds) ≡ hashed (joined ds)
   -- No digest depends on the buffer's bytes from the fill on.
   pub fill-only : (h g : Sm3) → Alike h g → finalized h ≡ finalized g
+  -- A fill above 63 is answered 7, the state as given and the digest zero; nothing else about a state is refused.
+  pub refused : (h : Sm3) (d : List ℕ) → 63 < h .«buffer_len»
+      → (updated h d ≡ record { answer = BadState; hasher = h }) × (finalized h ≡ record { answer = BadState; bytes = replicate 32 0 })
+  pub not-refused : (h : Sm3) (d : List ℕ) → h .«buffer_len» ≤ 63 → (updated h d .answer ≡ Done) × (finalized h .answer ≡ Done)
 
 -- HMAC
 pub record Mac : Type 0 where
@@ -55,6 +60,15 @@ pub record Mac : Type 0 where
   -- Verification says yes exactly when all bytes agree, however the message is cut.
   pub verified-exactly : (K : List ℕ) (ds : List (List ℕ)) (expected : List ℕ)
       → (verified (fedMac (started K .mac) ds) expected .matches ≡ true) ↔ (mac K (joined ds) .bytes ≡ expected)
+  -- Verification of any state says yes exactly when the digest is Done and all bytes agree, so no with answer 7.
+  pub verified-any : (m : HmacSm3) (expected : List ℕ)
+      → (verified m expected .answer ≡ finalizedMac m .answer)
+      × ((verified m expected .matches ≡ true) ↔ ((finalizedMac m .answer ≡ Done) × (finalizedMac m .bytes ≡ expected)))
+  -- An inner or an outer fill above 63 is answered 7, the state as given and the digest zero; nothing else about a state is refused.
+  pub refused : (m : HmacSm3) (d : List ℕ) → (63 < m .inner .«buffer_len») ⊎ (63 < m .outer .«buffer_len»)
+      → (updatedMac m d ≡ record { answer = BadState; mac = m }) × (finalizedMac m ≡ record { answer = BadState; bytes = replicate 32 0 })
+  pub not-refused : (m : HmacSm3) (d : List ℕ) → m .inner .«buffer_len» ≤ 63 → m .outer .«buffer_len» ≤ 63
+      → (updatedMac m d .answer ≡ Done) × (finalizedMac m .answer ≡ Done)
 
 -- SM4
 pub record Cipher : Type 0 where
@@ -98,6 +112,19 @@ pub record Keys : Type 0 where
       → Finished master Server transcript out answer out′
       → length master ≡ 48 → length transcript ≡ 32 → length out ≡ 12
       → (answer ≡ Done) × (out′ ≡ P-hash (HMAC SM3) master (serverFinishedLabel ++ transcript) 12)
+  -- A length out of place is answered 9, and the output stays as found.
+  pub master-secret-refused : (preMaster client server out : List ℕ) (answer : ℕ) (out′ : List ℕ)
+      → MasterSecret preMaster client server out answer out′
+      → ((length preMaster ≡ 48) × (length client ≡ 32) × (length server ≡ 32) × (length out ≡ 48) → ⊥)
+      → (answer ≡ WrongSize) × (out′ ≡ out)
+  pub key-block-refused : (master client server out : List ℕ) (answer : ℕ) (out′ : List ℕ)
+      → KeyBlock master client server out answer out′
+      → ((length master ≡ 48) × (length client ≡ 32) × (length server ≡ 32) × (length out ≤ 1024) → ⊥)
+      → (answer ≡ WrongSize) × (out′ ≡ out)
+  pub finished-refused : (master : List ℕ) (role : TlcpRole) (transcript out : List ℕ) (answer : ℕ) (out′ : List ℕ)
+      → Finished master role transcript out answer out′
+      → ((length master ≡ 48) × (length transcript ≡ 32) × (length out ≡ 12) → ⊥)
+      → (answer ≡ WrongSize) × (out′ ≡ out)
   -- The halves of a key block of 128 bytes: bytes 0..32 and 64..80 are the client's, 32..64 and 80..96 the server's.
   pub client-half : (b : List ℕ) → length b ≡ 128
       → halvedBy clientKeys b

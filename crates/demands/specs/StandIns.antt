@@ -1,9 +1,9 @@
 -- The stand-ins that the statements must rule out, each as a sealer, an opener or a stepper. Assumes nothing.
-use mathlib.Core.Bool.{true, cond}
+use mathlib.Core.Bool.{true, cond, not, _&&_}
 use mathlib.Core.List.{List, _++_}
 use Prim.Native.Nat.{ℕ, suc, _+_, _-_}
 use lib.Dec.{eqb, ltb}
-use lib.ListN.{length, drop}
+use lib.ListN.{length, drop, replicate}
 use Rattle.answers.specs.Answers.{Done, NoRoom, TooBig, BadRecord}
 use Rattle.words.specs.Lists.{put}
 use Rattle.sizes.specs.Sizes.{totalSteps}
@@ -34,6 +34,13 @@ abbrev pub leaks : Opener
 leaks g o = (
   deprotected g (length o),
   cond (eqb (deprotected g (length o) .answer) BadRecord) (decrypted g ++ drop (size g) o) (outputOf g o),
+)
+
+-- ours, but a refused record's decryption is left behind its place, where the output goes on
+abbrev pub leaksBehind : Opener
+leaksBehind g o = (
+  deprotected g (length o),
+  cond (eqb (deprotected g (length o) .answer) BadRecord) (replicate (size g) 0 ++ put 0 (decrypted g) (drop (size g) o)) (outputOf g o),
 )
 
 -- ours, but the length reported with answer 6 is what the padding says of itself
@@ -133,4 +140,23 @@ revives =
     record {
       start = ours .start;
       step = λ s r o. cond (s .ended) (report allZero Done 0 0, r) (stepped s r o, outputAfter s r o);
+    }
+
+-- ours, but while it runs a step reports the padding mark as a length
+abbrev pub tellsEarly : Stepper
+tellsEarly =
+    record {
+      start = ours .start;
+      step = λ s r o.
+          let t = stepped s r o in
+          (report (t .opening) (t .answer) (cond (t .opening .«pad_ok» && eqb (t .answer) Done) 1 (t .length)) (t .count), outputAfter s r o);
+    }
+
+-- ours, but on an opening that no start leads to, one that is not ended and holds an answer, it does no work and writes the cipher key
+abbrev pub strays : Stepper
+strays =
+    record {
+      start = ours .start;
+      step = λ s r o.
+          cond (ltb 0 (s .answer) && not (s .ended)) (report s Done 0 0, put 0 (s .«enc_key») o) (stepped s r o, outputAfter s r o);
     }

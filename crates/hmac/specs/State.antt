@@ -11,7 +11,7 @@ use Rattle.sm3.specs.State.{fresh, taken, hashed, finalized as digested}
 use Rattle.hmac.specs.declared.HmacSm3.{HmacSm3}
 use Rattle.hmac.specs.declared.Keyed.{Keyed}
 use Rattle.hmac.specs.declared.Verified.{Verified}
-use Rattle.hmac.specs.Rfc2104.{ipad, opad, K′, HMAC}
+use Rattle.hmac.specs.Rfc2104.{B, L, ipad, opad, K′, HMAC}
 
 -- the bytes of `hash`: SM3 below 2^61 bytes
 unfoldable pub hashBytes : List ℕ → List ℕ
@@ -27,7 +27,7 @@ started K =
 
 -- both fills are below 64
 unfoldable pub inRange : HmacSm3 → Bool
-inRange m = ltb (m .inner .«buffer_len») 64 && ltb (m .outer .«buffer_len») 64
+inRange m = ltb (m .inner .«buffer_len») B && ltb (m .outer .«buffer_len») B
 
 -- `update`: the inner hash takes d in; a state out of range is refused, as given
 unfoldable pub updated : HmacSm3 → List ℕ → Keyed
@@ -42,7 +42,7 @@ tag m = digested (taken (m .outer) (digested (m .inner) .bytes)) .bytes
 
 -- `finalize`: a state out of range is refused, the digest zero
 unfoldable pub finalized : HmacSm3 → Digest
-finalized m = cond (inRange m) (record { answer = Done; bytes = tag m }) (record { answer = BadState; bytes = replicate 32 0 })
+finalized m = cond (inRange m) (record { answer = Done; bytes = tag m }) (record { answer = BadState; bytes = replicate L 0 })
 
 -- `verify`: the answer of `finalize`; yes exactly when that is Done and all 32 bytes agree
 unfoldable pub verified : HmacSm3 → List ℕ → Verified

@@ -6,10 +6,12 @@ ghost use lib.ListN.{replicate};
 ghost use Rattle.words.specs.Choice.{bit};
 ghost use Rattle.words.specs.Lists.{xorEach, agree};
 ghost use Rattle.sm3.specs.State.{fresh, taken};
-ghost use Rattle.hmac.specs.Rfc2104.{K′};
+ghost use Rattle.hmac.specs.Rfc2104.{B, K′};
 ghost use Rattle.hmac.specs.State.{hashBytes, started, updated, finalized, verified, mac};
 use answers::BAD_STATE;
 use answers::DONE;
+use sm3::BLOCK_SIZE;
+use sm3::DIGEST_SIZE;
 use sm3::Digest;
 use sm3::Sm3;
 
@@ -34,11 +36,11 @@ pub struct Verified {
 }
 
 // The key in one block, zeros behind it; hashed first where it is longer.
-fn k_prime(key: &[u8]) -> [u8; 64]
+fn k_prime(key: &[u8]) -> [u8; BLOCK_SIZE]
     ensures { λ r. ⌜ r ≡ K′ hashBytes (now (key .entry)) ⌝ }
 {
-    let mut k = [0u8; 64];
-    if 64 < key.len() {
+    let mut k = [0u8; BLOCK_SIZE];
+    if BLOCK_SIZE < key.len() {
         let hashed = sm3::hash(key);
         let bytes = hashed.bytes;
         words::copy_at(&mut k, 0, &bytes);
@@ -49,18 +51,18 @@ fn k_prime(key: &[u8]) -> [u8; 64]
 }
 
 // Each byte of the block XOR pad.
-pub fn xor_pad(block: [u8; 64], pad: u8) -> [u8; 64]
-    ensures { λ r. ⌜ r ≡ xorEach block (replicate 64 pad) ⌝ }
+pub fn xor_pad(block: [u8; BLOCK_SIZE], pad: u8) -> [u8; BLOCK_SIZE]
+    ensures { λ r. ⌜ r ≡ xorEach block (replicate B pad) ⌝ }
 {
-    let mut out = [0u8; 64];
-    for i in 0..64 {
+    let mut out = [0u8; BLOCK_SIZE];
+    for i in 0..BLOCK_SIZE {
         out[i] = block[i] ^ pad;
     }
     out
 }
 
 // A fresh hash that has taken in a block.
-fn with_block(block: [u8; 64]) -> Sm3
+fn with_block(block: [u8; BLOCK_SIZE]) -> Sm3
     ensures { λ r. ⌜ r ≡ taken fresh block ⌝ }
 {
     let u = Sm3::new().update(&block);
@@ -68,11 +70,11 @@ fn with_block(block: [u8; 64]) -> Sm3
 }
 
 // 1 where all 32 bytes agree, else 0: every byte is looked at, and their differences are gathered.
-pub fn ct_eq(a: [u8; 32], b: [u8; 32]) -> u8
+pub fn ct_eq(a: [u8; DIGEST_SIZE], b: [u8; DIGEST_SIZE]) -> u8
     ensures { λ r. ⌜ r ≡ bit (agree a b) ⌝ }
 {
     let mut differ: u8 = 0;
-    for i in 0..32 {
+    for i in 0..DIGEST_SIZE {
         differ = differ | (a[i] ^ b[i]);
     }
     masks::ct_eq_u8(differ, 0)
@@ -120,7 +122,7 @@ impl HmacSm3 {
     {
         let inner = self.inner;
         let outer = self.outer;
-        let zeros = [0u8; 32];
+        let zeros = [0u8; DIGEST_SIZE];
         if sm3::BLOCK_SIZE <= inner.buffer_len {
             return Digest {
                 answer: BAD_STATE,
@@ -140,7 +142,7 @@ impl HmacSm3 {
     }
 
     // Whether the MAC of all bytes so far is the expected one; answer 7 and no where either hash is out of range.
-    pub fn verify(self, expected: [u8; 32]) -> Verified
+    pub fn verify(self, expected: [u8; DIGEST_SIZE]) -> Verified
         ensures { λ r. ⌜ r ≡ verified self expected ⌝ }
     {
         let computed = self.finalize();

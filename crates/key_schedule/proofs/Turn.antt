@@ -11,6 +11,7 @@ use Rattle.words.specs.Lists.{put}
 use Rattle.sm3.specs.Standard.{SM3}
 use Rattle.hmac.specs.Rfc2104.{HMAC}
 use Rattle.key_schedule.specs.Rest.{rest}
+use Rattle.key_schedule.specs.Sizes.{Asked}
 use Rattle.key_schedule.specs.Standard.{blocks}
 use Rattle.key_schedule.proofs.Depth.{blocks-more}
 use Rattle.key_schedule.proofs.Expansion.{rest-last, rest-more}
@@ -29,6 +30,11 @@ module _ (secret seed a out w : List ℕ) (laid : w ≡ put 0 (HMAC SM3 secret (
   -- the call on what remains has a block less to write
   pub fewer-blocks : 32 < length w → blocks (length (take (length w - 32) (drop 32 w))) < blocks (length out)
   fewer-blocks h = rw (length-part 32 w, ← length-laid, blocks-more (length w) h) (lt-suc-self (blocks (length w - 32)))
+
+  -- and is asked for a byte or more
+  pub asked-rest : 32 < length w → Asked (length out) → Asked (length (take (length w - 32) (drop 32 w)))
+  asked-rest h a =
+      record { some = omega (arith, length-part 32 w); most = omega (arith, length-part 32 w, length-laid) }
 
   -- the last block
   pub written-last : length w ≤ 32 → w ≡ rest (HMAC SM3) secret seed a (length out)

@@ -1,7 +1,7 @@
 -- The lengths that the key schedule asks for, and the test of each derivation's arguments. Assumes nothing.
 use mathlib.Core.Bool.{Bool, _&&_}
 use mathlib.Core.List.{List}
-use Prim.Native.Nat.{ℕ, _≤_}
+use Prim.Native.Nat.{ℕ, _≤_, _<_}
 use lib.Dec.{eqb, leb}
 use lib.ListN.{length}
 
@@ -36,6 +36,11 @@ keyBlockSizes secret client server out = inputsRight secret client server && leb
 unfoldable pub finishedSizes : List ℕ → List ℕ → List ℕ → Bool
 finishedSizes secret transcript out =
     eqb (length secret) MASTER-SECRET-LEN && eqb (length transcript) RANDOM-LEN && eqb (length out) FINISHED-VERIFY-DATA-LEN
+
+-- what one call of p_sm3 is asked for: 1 to 1,024 bytes
+pub record Asked (n : ℕ) : Type 0 where
+  pub some : 0 < n
+  pub most : n ≤ MAX-KEY-BLOCK
 
 -- what the private functions are given: so little that no count of HMAC-SM3 wraps
 pub record Small (secret label first second : List ℕ) : Type 0 where

@@ -9,7 +9,7 @@ ghost use Rattle.sm3.specs.Standard.{SM3};
 ghost use Rattle.hmac.specs.Rfc2104.{HMAC};
 ghost use Rattle.key_schedule.specs.Promise.{MasterSecret, KeyBlock, Finished};
 ghost use Rattle.key_schedule.specs.Rest.{rest};
-ghost use Rattle.key_schedule.specs.Sizes.{inputsRight, Small};
+ghost use Rattle.key_schedule.specs.Sizes.{MAX-KEY-BLOCK, inputsRight, Asked, Small};
 ghost use Rattle.key_schedule.specs.Standard.{PRF};
 use answers::DONE;
 use answers::WRONG_SIZE;
@@ -57,9 +57,10 @@ fn next_a(secret: &[u8], a: [u8; 32]) -> [u8; 32]
 }
 
 // The output from A(i) = a on: one block, cut where out is shorter, and what remains by a call of itself from A(i + 1).
-// One call for each block, so at most 32 deep for the longest key block: blocks-most of proofs/Depth.antt.
+// One call for each block: the measure is the number of blocks that out takes, which falls with every call and is 1 to 32 at
+// each (one-to-32 of proofs/Depth.antt), so at most 32 calls stand on the stack.
 fn p_sm3(secret: &[u8], a: [u8; 32], label: &[u8], first: &[u8], second: &[u8], out: &mut [u8])
-    requires { ⌜ Small (now secret) (now label) (now first) (now second) ⌝ }
+    requires { ⌜ Small (now secret) (now label) (now first) (now second) × Asked (length (now out)) ⌝ }
     ensures { λ _.
         ⌜ now (out .exit) ≡ rest (HMAC SM3) (now (secret .entry)) (now (label .entry) ++ (now (first .entry) ++ now (second .entry))) a (length (now (out .entry))) ⌝ }
 {
@@ -73,7 +74,7 @@ fn p_sm3(secret: &[u8], a: [u8; 32], label: &[u8], first: &[u8], second: &[u8], 
 
 // P_hash from its start: A(1) is the MAC of the seed. Nothing is worked out where nothing is asked for.
 fn prf(secret: &[u8], label: &[u8], first: &[u8], second: &[u8], out: &mut [u8])
-    requires { ⌜ Small (now secret) (now label) (now first) (now second) ⌝ }
+    requires { ⌜ Small (now secret) (now label) (now first) (now second) × (length (now out) ≤ MAX-KEY-BLOCK) ⌝ }
     ensures { λ _.
         ⌜ now (out .exit) ≡ PRF (now (secret .entry)) (now (label .entry)) (now (first .entry) ++ now (second .entry)) (length (now (out .entry))) ⌝ }
 {

@@ -9,7 +9,7 @@ ghost use Rattle.words.specs.Lists.{put};
 ghost use Rattle.sm3.specs.Standard.{SM3};
 ghost use Rattle.hmac.specs.Rfc2104.{HMAC};
 ghost use Rattle.record.specs.KeyBlock.{clientKeys, serverKeys, keysAt, zeroKeys, halvedBy, keysOf};
-ghost use Rattle.record.specs.Limits.{MAX-PLAINTEXT, MAC-LEN, CBC-KEY-BLOCK-LEN};
+ghost use Rattle.record.specs.Limits.{TLCP-RECORD-VERSION, MAX-PLAINTEXT, MAC-LEN, CBC-KEY-BLOCK-LEN};
 ghost use Rattle.record.specs.Promise.{Protected};
 ghost use Rattle.record.specs.Standard.{header, padding, padOf, sealedLength};
 use answers::DONE;
@@ -22,6 +22,13 @@ use sm4::Sm4Cipher;
 
 // TLCP 1.1. Callers pass the version of each record; this is the usual one.
 pub const TLCP_RECORD_VERSION: [u8; 2] = [1, 1];
+
+// That constant is the definition's; nothing calls it.
+fn record_version() -> [u8; 2]
+    ensures { λ r. ⌜ r ≡ TLCP-RECORD-VERSION ⌝ }
+{
+    TLCP_RECORD_VERSION
+}
 
 pub const CBC_KEY_BLOCK_LEN: usize = 128;
 

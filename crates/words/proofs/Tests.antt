@@ -12,6 +12,11 @@ pub neither : (a b : Bool) → (a || b) ≡ false → (a ≡ false) × (b ≡ fa
 neither true b e = (e, cc)
 neither false b e = (refl, e)
 
+-- a test that can't hold fails
+pub untrue : (t : Bool) → (t ≡ true → ⊥) → t ≡ false
+untrue true h = absurd (h refl)
+untrue false h = refl
+
 -- the first fails
 pub left-fails : (a b : Bool) → a ≡ false → (a && b) ≡ false
 left-fails a b e = rw e

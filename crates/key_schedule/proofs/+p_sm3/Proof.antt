@@ -15,7 +15,7 @@ use Rattle.key_schedule.specs.Rest.{rest}
 use Rattle.key_schedule.specs.Standard.{blocks}
 use Rattle.key_schedule.proofs.Expansion.{length-rest}
 use Rattle.key_schedule.proofs.Lengths.{length-HMAC}
-use Rattle.key_schedule.proofs.Turn.{fewer-blocks, written-last, written-more}
+use Rattle.key_schedule.proofs.Turn.{fewer-blocks, asked-rest, written-last, written-more}
 use Rattle.key_schedule.proofs.mac_parts.Reads as mac-parts-reads
 use Rattle.key_schedule.proofs.next_a.Reads as next-a-reads
 use Rattle.key_schedule.proofs.p_sm3.Reads as p-sm3
@@ -72,8 +72,10 @@ p-sm3-requires : (t : ℕ) → p-sm3-lts.Need-p-sm3-requires (claims t) (p-sm3-a
 p-sm3-requires t c κs =
     let k = c .before .before .before in
     let s = start t k in
-    let fewer = fewer-blocks (secret t k) (seed t k) (s .args .t2) (found t k) (left t k) (laid t k) (c .before .before .if1 .taken) in
-    (rw (← s .pre .0) fewer, s .pre .1)
+    let more = c .before .before .if1 .taken in
+    let fewer = fewer-blocks (secret t k) (seed t k) (s .args .t2) (found t k) (left t k) (laid t k) more in
+    let asked = asked-rest (secret t k) (seed t k) (s .args .t2) (found t k) (left t k) (laid t k) more (s .pre .1 .1) in
+    (rw (← s .pre .0) fewer, (s .pre .1 .0, asked))
 
 returns : (t : ℕ) → p-sm3-lts.Need-returns (claims t) (p-sm3-at t) p-sm3.Post
 returns t c =

@@ -2,6 +2,7 @@
 use mathlib.Core.Bool.{true, false}
 use mathlib.Core.Logic.{⊎-elim}
 use mathlib.Core.Path.{_≡_, sym, _∙_}
+use Prim.Native.Nat.{_≤_}
 use native.Mathlib.Omega.{arith}
 use borrow.Author.Needs.{needs}
 use borrow.Author.Tests.{ltb-true, ltb-false, le-leb, lt-leb, not-true, not-false}
@@ -36,18 +37,24 @@ module _ (c : tie.Else2) where
   inputs : inputsRight (s .args .master-secret .now) (s .args .client-random .now) (s .args .server-random .now) ≡ true
   inputs = sym (c .before .before .inputs-right .ensures) ∙ not-false (c .before .before .inputs-right .result) (c .before .if1 .left)
 
+  -- and the output is no longer than the most
+  most : length (s .args .out .now) ≤ MAX-KEY-BLOCK
+  most = ltb-false MAX-KEY-BLOCK (length (s .args .out .now)) (c .if2 .left)
+
   -- so the definition's test holds
   right : keyBlockSizes (s .args .master-secret .now) (s .args .client-random .now) (s .args .server-random .now) (s .args .out .now) ≡ true
   unfolding keyBlockSizes
-  right = rw inputs (le-leb (length (s .args .out .now)) MAX-KEY-BLOCK (ltb-false MAX-KEY-BLOCK (length (s .args .out .now)) (c .if2 .left)))
+  right = rw inputs (le-leb (length (s .args .out .now)) MAX-KEY-BLOCK most)
 
 returns : tie.Need-returns
 returns c = record { result = rw (wrong c); output = rw (wrong c) }
 
 prf-requires : tie.Need-prf-requires
 prf-requires c κs =
-    let n = inputs-lengths _ _ _ (inputs (c .before .before)) in
-    record { secret-small = omega arith; label-small = omega arith; first-small = omega arith; second-small = omega arith }
+    let n = inputs-lengths _ _ _ (inputs (c .before .before)) in (
+      record { secret-small = omega arith; label-small = omega arith; first-small = omega arith; second-small = omega arith },
+      most (c .before .before),
+    )
 
 returns-2 : tie.Need-returns-2
 unfolding keyBlock

@@ -51,8 +51,10 @@ returns c = record { result = rw (wrong c); output = rw (wrong c) }
 
 prf-requires : tie.Need-prf-requires
 prf-requires c κs =
-    let n = inputs-lengths _ _ _ (inputs (c .before .before)) in
-    record { secret-small = omega arith; label-small = omega arith; first-small = omega arith; second-small = omega arith }
+    let n = inputs-lengths _ _ _ (inputs (c .before .before)) in (
+      record { secret-small = omega arith; label-small = omega arith; first-small = omega arith; second-small = omega arith },
+      omega (arith, room (c .before .before)),
+    )
 
 returns-2 : tie.Need-returns-2
 unfolding masterSecret

@@ -15,7 +15,7 @@ use Rattle.words.proofs.Tests.{left-fails, right-fails}
 use Rattle.key_schedule.specs.declared.TlcpRole.{TlcpRole}
 use Rattle.key_schedule.specs.declared.TlcpRole.the-variants.{Client, Server}
 use Rattle.key_schedule.specs.Promise.{Finished}
-use Rattle.key_schedule.specs.Sizes.{MASTER-SECRET-LEN, RANDOM-LEN, FINISHED-VERIFY-DATA-LEN, finishedSizes, Small}
+use Rattle.key_schedule.specs.Sizes.{MASTER-SECRET-LEN, RANDOM-LEN, FINISHED-VERIFY-DATA-LEN, MAX-KEY-BLOCK, finishedSizes, Small}
 use Rattle.key_schedule.specs.Standard.{labelOf, PRF, finished}
 use Rattle.key_schedule.proofs.finished_verify_data.Statement.{statement}
 use Rattle.key_schedule.proofs.finished_verify_data.Tie as tie
@@ -62,11 +62,12 @@ module _ (c : tie.Else3) where
         eq-eqb (length (s .args .out .now)) FINISHED-VERIFY-DATA-LEN (lengths .2),
       )
 
-  -- what the PRF is given is small
-  small : (label : List ℕ) → length label ≤ 64 → Small (s .args .master-secret .now) label (s .args .transcript-hash .now) []
+  -- what the PRF is given is small, and so is what it is asked for
+  small : (label : List ℕ) → length label ≤ 64
+      → Small (s .args .master-secret .now) label (s .args .transcript-hash .now) [] × (length (s .args .out .now) ≤ MAX-KEY-BLOCK)
   small label h =
       let n = lengths in
-      record { secret-small = omega arith; label-small = h; first-small = omega arith; second-small = omega arith }
+      (record { secret-small = omega arith; label-small = h; first-small = omega arith; second-small = omega arith }, omega arith)
 
   -- what the PRF left, with the label of the role
   done : (role : TlcpRole) (x : List ℕ) → s .args .role ≡ role
