@@ -1,5 +1,4 @@
 # What make builds goes into build/, since rt ci removes target/.
-KIT = rattle-kit-5b logic 064da1ca440f63e7
 RUST_SRC = ../shared/docs/src
 
 MAKEFLAGS += --no-print-directory
@@ -14,7 +13,7 @@ help:
 	@echo 'make          build/libborder.a, the library for C and Rust on x86-64'
 	@echo 'make header   compare the C header and the Rust wrapper with the source'
 	@echo 'make wrapper  test the safe Rust wrapper over the library'
-	@echo 'make test     the gate: the form of the statements, the layout, every proof'
+	@echo 'make test     the gate: the form of the statements, the lists in docs/, every proof, where each wrong program is refused'
 	@echo 'make vectors  prove and run the programs of published vectors'
 	@echo 'make lengths  prove the program lengths, run it and try its edges'
 	@echo 'make port     build/port: the library behind the line protocol'
@@ -24,27 +23,19 @@ help:
 	@echo 'make bench    time the code beside the Rust, OpenSSL and libgcrypt, in one run: build/bench.tsv, docs/bench.svg'
 	@echo 'make ct       valgrind over the library: no jump and no address by a secret'
 	@echo 'make fuzz     random calls between guard pages, held to a model, for a minute (SECONDS=3600 SEED=1)'
-	@echo 'make edits    docs/EDITS.md: where each wrong program is refused, from the logs of make test'
+	@echo 'make edits    docs/EDITS.md: where each wrong program is refused, from the logs of rt ci'
 	@echo 'make clean    remove build/ and target/'
 
-# Nothing may come after rt ci: its last line is the last of the run.
+# The gate, whatever make was told: its last line is the last of the run.
 test:
-	@kit="$$(rt version)"; [ "$$kit" = "$(KIT)" ] || echo "warning: this is '$$kit'; '$(KIT)' was used" >&2
-	tools/statements_test
-	tools/statements
-	tools/calls_test
-	tools/calls --check
-	tools/promises
-	tools/header_check
-	rt fmt --check
-	rt ci
+	@.ci/run
 
 build/libborder.a: FORCE
 	rt staticlib border
 	@mkdir -p build
 	@cmp -s target/staticlib/libborder.a $@ || cp target/staticlib/libborder.a $@
 
-# After make test, whose logs it reads.
+# After rt ci, whose logs it reads; the gate compares its list with the tree.
 edits:
 	tools/edits
 
