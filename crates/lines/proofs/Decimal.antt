@@ -19,11 +19,11 @@ digits-enough (suc k) zero n h i = absurd (omega arith)
 digits-enough (suc k) (suc j) n h i = by (ltb n 10) refl (digits-enough k j (n / 10))
   where
     by : (t : Bool) → ltb n 10 ≡ t → (n / 10 < k → n / 10 < j → digits k (n / 10) ≡ digits j (n / 10))
-        → cond t [] (digits k (n / 10)) ++ (digit (n % 10) ∷ []) ≡ cond t [] (digits j (n / 10)) ++ (digit (n % 10) ∷ [])
-    by true e ih = refl
+        → digits (suc k) n ≡ digits (suc j) n
+    by true e ih = rw e
     by false e ih =
         let b : 10 ≤ n = ltb-false n 10 e in
-        ap (λ (l : List ℕ). l ++ (digit (n % 10) ∷ [])) (ih (omega arith) (omega arith))
+        rw (e, ih (omega arith) (omega arith))
 
 -- a number below 10 is one digit
 pub decimal-one : (n : ℕ) → n < 10 → decimal n ≡ digit (n % 10) ∷ []

@@ -46,23 +46,14 @@ length-numeral n mark = length-append (decimal n) (mark ∷ [])
 
 -- the three numbers, each with the byte behind it
 pub length-numbers : (a b c : ℕ)
-    → length (numbers a b c) ≡ length (numeral a SPACE) + (length (numeral b SPACE) + length (numeral c NEWLINE))
+    → length (numbers a b c) ≡ length (decimal a) + 1 + (length (decimal b) + 1 + (length (decimal c) + 1))
 unfolding numbers
-length-numbers a b c = simp length-append
+length-numbers a b c = simp (length-append, length-numeral)
 
 -- 20, 3 and 20 digits
 pub numbers-short : (a b c : ℕ) → a < 10 ^ 20 → b < 10 ^ 3 → c < 10 ^ 20 → length (numbers a b c) ≤ MOST-TEXT
 numbers-short a b c h i j =
-    omega (
-      arith,
-      length-numbers a b c,
-      length-numeral a SPACE,
-      length-numeral b SPACE,
-      length-numeral c NEWLINE,
-      decimal-short 19 a h,
-      decimal-short 2 b i,
-      decimal-short 19 c j,
-    )
+    omega (arith, length-numbers a b c, decimal-short 19 a h, decimal-short 2 b i, decimal-short 19 c j)
 
 -- a text has room, whatever its kind
 pub text-short : (j : Judged) → j .«record_len» < 10 ^ 20 → j .answer < 10 ^ 3 → j .total < 10 ^ 20 → length (textOf j) ≤ MOST-TEXT

@@ -241,7 +241,7 @@ fn put_decimal(n: usize, out: &mut [u8], at: usize) -> usize
 
 // A number and one byte more from an index on, and the index behind them.
 fn put_numeral(n: usize, mark: u8, out: &mut [u8], at: usize) -> usize
-    requires { ⌜ at + length (numeral n mark) ≤ length (now out) ⌝ }
+    requires { ⌜ at + length (decimal n) < length (now out) ⌝ }
     ensures { λ r. ⌜ PutAt (numeral n mark) (now (out .entry)) at r (now (out .exit)) ⌝ }
 {
     let end = put_decimal(n, out, at);
@@ -356,10 +356,10 @@ pub fn tell_last(line: Line, out: &mut [u8]) -> Told
         used: 0,
         ended: is_begun(line),
     };
-    let length = put_ended(step, out, 0);
+    let n = put_ended(step, out, 0);
     Told {
         answer: DONE,
         line: start_line(),
-        length,
+        length: n,
     }
 }

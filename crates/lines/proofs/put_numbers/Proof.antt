@@ -1,9 +1,10 @@
 -- `lines::put_numbers` meets its contract: the three numbers stand one behind the other. Assumes nothing.
-use mathlib.Core.List.{append-assoc}
+use mathlib.Core.List.{_++_, append-assoc}
 use native.Mathlib.Omega.{arith}
+use lib.ListN.{length-append}
 use Rattle.lines.specs.Input.{NEWLINE}
-use Rattle.lines.specs.Text.{SPACE, numeral, numbers}
-use Rattle.lines.proofs.Texts.{length-numbers}
+use Rattle.lines.specs.Text.{SPACE, numeral, numbers, PutAt}
+use Rattle.lines.proofs.Texts.{length-numeral, length-numbers}
 use Rattle.lines.proofs.Writing.{put-long, put-after}
 use Rattle.lines.proofs.put_numbers.Statement.{statement}
 use Rattle.lines.proofs.put_numbers.Tie as tie
@@ -17,34 +18,69 @@ put-numeral-requires-2 : tie.Need-put-numeral-requires-2
 put-numeral-requires-2 c κs =
     let s = c .before .before .before .before .before .before in
     let first = c .before .before .before .put-numeral .ensures in
-    omega (arith, s .pre, length-numbers (s .args .a) (s .args .b) (s .args .c), first .behind, put-long first)
-
-put-numeral-requires-3 : tie.Need-put-numeral-requires-3
-put-numeral-requires-3 c κs =
-    let s = c .before .before .before .before .before .before .before .before .before .before in
-    let first = c .before .before .before .before .before .before .before .put-numeral .ensures in
-    let second = c .before .before .before .put-numeral2 .ensures in
     omega (
       arith,
       s .pre,
       length-numbers (s .args .a) (s .args .b) (s .args .c),
+      length-numeral (s .args .a) SPACE,
       first .behind,
       put-long first,
+    )
+
+-- the first two numbers
+two : (c : tie.After-put-numeral2)
+    → PutAt (numeral (c .before .before .before .before .before .before .before .args .a) SPACE
+    ++ numeral (c .before .before .before .before .before .before .before .args .b) SPACE)
+    (c .before .before .before .before .before .before .before .args .out .now) 0 (c .put-numeral2 .result) (c .put-numeral2 .last .1 .1 .0)
+two c =
+    let s = c .before .before .before .before .before .before .before in
+    let first = c .before .before .before .before .put-numeral .ensures in
+    let second = c .put-numeral2 .ensures in
+    put-after first second
+    (omega (
+      arith,
+      s .pre,
+      length-numbers (s .args .a) (s .args .b) (s .args .c),
+      length-numeral (s .args .a) SPACE,
+      length-numeral (s .args .b) SPACE,
+      first .behind,
       second .behind,
-      put-long second,
+    ))
+
+put-numeral-requires-3 : tie.Need-put-numeral-requires-3
+put-numeral-requires-3 c κs =
+    let s = c .before .before .before .before .before .before .before .before .before .before in
+    let front = two (c .before .before .before) in
+    omega (
+      arith,
+      s .pre,
+      length-numbers (s .args .a) (s .args .b) (s .args .c),
+      length-numeral (s .args .a) SPACE,
+      length-numeral (s .args .b) SPACE,
+      length-append (numeral (s .args .a) SPACE) (numeral (s .args .b) SPACE),
+      front .behind,
+      put-long front,
     )
 
 returns : tie.Need-returns
 unfolding numbers
 returns c =
     let s = c .before .before .before .before .before .before .before .before .before .before .before .before .before in
-    let first = c .before .before .before .before .before .before .before .before .before .before .put-numeral .ensures in
-    let second = c .before .before .before .before .before .before .put-numeral2 .ensures in
+    let front = two (c .before .before .before .before .before .before) in
     let third = c .before .before .put-numeral3 .ensures in
-    let long = length-numbers (s .args .a) (s .args .b) (s .args .c) in
     rw (← append-assoc (numeral (s .args .a) SPACE) (numeral (s .args .b) SPACE) (numeral (s .args .c) NEWLINE))
-    (put-after (put-after first second (omega (arith, s .pre, long, first .behind, second .behind))) third
-    (omega (arith, s .pre, long, first .behind, second .behind, third .behind)))
+    (put-after front third
+    (omega (
+      arith,
+      s .pre,
+      length-numbers (s .args .a) (s .args .b) (s .args .c),
+      length-numeral (s .args .a) SPACE,
+      length-numeral (s .args .b) SPACE,
+      length-numeral (s .args .c) NEWLINE,
+      length-append (numeral (s .args .a) SPACE) (numeral (s .args .b) SPACE),
+      front .behind,
+      third .behind,
+    )))
 
 same-length : tie.Need-same-length
 same-length c = put-long (returns c)
