@@ -1,6 +1,6 @@
-// Reads lines of hexadecimal, one record a line, and prints for each the record's length, its size answer and the number of
-// steps that opening it takes, or `long` or `bad`. What is printed is made by `lines`; here it is read and written. The
-// buffers stay as they are, however long a line or the input is.
+// Reads lines of hexadecimal, one record a line, and prints for each the record's length, its size answer and the number
+// of steps that opening it takes, or `long` or `bad`. What is printed is made by `lines`: here bytes are read and written.
+// The buffers stay as they are, however long a line or the input is.
 ghost use mathlib.Core.Path.{_≡_};
 ghost use Prim.Native.Nat.{_≤_};
 ghost use lib.ListN.{length};

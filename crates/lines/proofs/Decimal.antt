@@ -1,7 +1,7 @@
 -- The digits of a number: the last one behind those of a tenth of it. Assumes nothing.
 use mathlib.Core.Bool.{Bool, true, false, cond}
 use mathlib.Core.List.{List, [], _∷_, _++_, foldl, foldl-append}
-use mathlib.Core.Path.{_≡_, refl, sym, ap, _∙_}
+use mathlib.Core.Path.{_≡_, refl, ap, _∙_}
 use Prim.Native.Nat.{ℕ, zero, suc, _+_, _-_, _*_, _/_, _%_, _^_, _≤_, _<_}
 use native.Mathlib.Nat.{pow-succ'}
 use native.Mathlib.Omega.{arith}
@@ -34,8 +34,8 @@ decimal-one n h = rw (lt-ltb n 10 h)
 pub decimal-more : (n : ℕ) → 10 ≤ n → decimal n ≡ decimal (n / 10) ++ (digit (n % 10) ∷ [])
 unfolding decimal digits
 decimal-more n h =
-    rw (le-ltb n 10 h)
-    (ap (λ (l : List ℕ). l ++ (digit (n % 10) ∷ [])) (digits-enough n (suc (n / 10)) (n / 10) (omega arith) (omega arith)))
+    let same = digits-enough n (suc (n / 10)) (n / 10) (omega arith) (omega arith) in
+    rw (le-ltb n 10 h) (ap (λ (l : List ℕ). l ++ (digit (n % 10) ∷ [])) same)
 
 -- one more
 pub length-more : (n : ℕ) → 10 ≤ n → length (decimal n) ≡ length (decimal (n / 10)) + 1
@@ -46,7 +46,8 @@ pub decimal-short : (m n : ℕ) → n < 10 ^ suc m → length (decimal n) ≤ su
 decimal-short zero n h = rw (decimal-one n (omega arith)) (omega arith)
 decimal-short (suc m) n h = by (ltb n 10) refl (decimal-short m (n / 10))
   where
-    by : (t : Bool) → ltb n 10 ≡ t → (n / 10 < 10 ^ suc m → length (decimal (n / 10)) ≤ suc m) → length (decimal n) ≤ suc (suc m)
+    by : (t : Bool) → ltb n 10 ≡ t → (n / 10 < 10 ^ suc m → length (decimal (n / 10)) ≤ suc m)
+        → length (decimal n) ≤ suc (suc m)
     by true e ih = rw (decimal-one n (ltb-true n 10 e)) (omega arith)
     by false e ih =
         let b : 10 ≤ n = ltb-false n 10 e in

@@ -5,7 +5,7 @@ use mathlib.Core.Path.{_≡_, refl, _∙_}
 use Prim.Native.Nat.{ℕ, _<_}
 use native.Mathlib.Omega.{arith}
 use lib.Dec.{eqb}
-use lib.ListN.{length, replicate}
+use lib.ListN.{replicate}
 use Rattle.sizes.specs.Sizes.{sizeAnswer, macSteps, totalSteps}
 use Rattle.lines.specs.Hexadecimal.{isHex, allHex}
 use Rattle.lines.specs.Input.{NEWLINE, front, last, linesFrom, lines}
@@ -88,7 +88,8 @@ decimals = (refl, refl, refl, refl)
 
 -- a text of each kind
 pub texts :
-    (textOf (unsized Long) ≡ 0x6c ∷ 0x6f ∷ 0x6e ∷ 0x67 ∷ 0x0a ∷ []) × (textOf (unsized Bad) ≡ 0x62 ∷ 0x61 ∷ 0x64 ∷ 0x0a ∷ [])
+    (textOf (unsized Long) ≡ 0x6c ∷ 0x6f ∷ 0x6e ∷ 0x67 ∷ 0x0a ∷ [])
+    × (textOf (unsized Bad) ≡ 0x62 ∷ 0x61 ∷ 0x64 ∷ 0x0a ∷ [])
     × (textOf (shown 63 3 0) ≡ 0x36 ∷ 0x33 ∷ 0x20 ∷ 0x33 ∷ 0x20 ∷ 0x30 ∷ 0x0a ∷ [])
 unfolding textOf numbers numeral decimal digits
 texts = (refl, refl, refl)

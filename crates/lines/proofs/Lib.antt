@@ -8,4 +8,5 @@ pub mod Edges
 pub mod Decimal
 pub mod Texts
 pub mod Telling
+pub mod Run
 pub mod OneOutcome

@@ -1,49 +1,47 @@
--- What is written of a chunk, step by step, and of all chunks: the text of the lines, however the input is cut. Assumes nothing.
+-- What is written of a chunk, step by step, and at the end of the input. Assumes nothing.
 use mathlib.Core.Bool.{Bool, true, false, cond}
-use mathlib.Core.List.{List, [], _∷_, _++_, map, flatten}
-use mathlib.Core.Path.{_≡_, refl, sym, ap, ap₂, subst, _∙_}
+use mathlib.Core.List.{List, [], _∷_, _++_, map}
+use mathlib.Core.Path.{_≡_, refl, sym, ap, subst, _∙_}
 use Prim.Native.Nat.{ℕ, _+_, _-_, _*_, _≤_, _<_}
-use native.Mathlib.Nat.{zero-add}
 use native.Mathlib.Omega.{arith}
 use borrow.Author.Tests.{lt-ltb, le-ltb}
-use lib.ListN.{length, take, drop, length-append, length-drop, drop-of-length-le}
+use lib.ListN.{length, take, drop, length-append, drop-of-length-le}
 use lib.Seq.{drop-drop}
 use Rattle.answers.specs.Answers.{Done}
 use Rattle.words.specs.Lists.{put}
-use Rattle.words.proofs.Lists.{part-to-end, length-put}
-use Rattle.words.proofs.Puts.{put-put, part-put}
-use Rattle.lines.specs.Input.{lines}
-use Rattle.lines.specs.Judgement.{MAX-LINE, judgedLine, judged}
+use Rattle.words.proofs.Lists.{part-to-end}
+use Rattle.words.proofs.Puts.{put-put}
+use Rattle.lines.specs.Judgement.{MAX-LINE, judgedLine}
 use Rattle.lines.specs.Promise.{JudgedPut, ChunkTold, LastTold}
-use Rattle.lines.specs.Reading.{MOST, fresh, taken, advanced, finished, begun, isBegun, told, toldLast, toldAll}
-use Rattle.lines.specs.Run.{Run, end, more}
-use Rattle.lines.specs.Telling.{MOST-TEXT, chunkText, lastText, endedText, nextLine, noRoom, chunkReport, chunkOutput, lastReport, lastOutput}
+use Rattle.lines.specs.Reading.{MOST, fresh, taken, advanced, finished, begun, isBegun, told}
+use Rattle.lines.specs.Telling.{MOST-TEXT, chunkText, lastText, endedText, nextLine, noRoom}
+use Rattle.lines.specs.Telling.{chunkReport, chunkOutput, lastReport, lastOutput}
 use Rattle.lines.specs.Text.{textOf, printed, PutAt}
 use Rattle.lines.specs.declared.Judged.{Judged}
 use Rattle.lines.specs.declared.Line.{Line}
 use Rattle.lines.specs.declared.Step.{Step}
-use Rattle.lines.specs.declared.Told.{Told}
-use Rattle.lines.proofs.Chunks.{told-lines}
-use Rattle.lines.proofs.Edges.{limit-counted}
-use Rattle.lines.proofs.Steps.{Turn, advance-turn, finished-advance}
-use Rattle.lines.proofs.Texts.{chunk-short, last-text, line-short, printed-append}
+use Rattle.lines.proofs.Steps.{advance-turn, finished-advance}
+use Rattle.lines.proofs.Texts.{chunk-short, last-text, line-short}
 use Rattle.lines.proofs.Writing.{put-long, put-nothing}
 
 -- ---- one step
 
 -- of a line that ended, its text
-pub ended-put : (step : Step) {j : Judged} {o o₁ : List ℕ} {at n : ℕ} → step .ended ≡ true → j ≡ judgedLine MAX-LINE (step .line)
-    → JudgedPut j o at n o₁ → PutAt (endedText step) o at (at + n) o₁
+pub ended-put : (step : Step) {j : Judged} {o o₁ : List ℕ} {at n : ℕ}
+    → step .ended ≡ true → j ≡ judgedLine MAX-LINE (step .line) → JudgedPut j o at n o₁
+    → PutAt (endedText step) o at (at + n) o₁
 ended-put step {o = o} {at = at} h e p =
     rw (h, ← e) (record { behind = ap (λ (k : ℕ). at + k) (p .result); laid = p .output })
 
 -- of a line that goes on, nothing
-pub goes-on-put : (step : Step) {o : List ℕ} {at : ℕ} → step .ended ≡ false → at ≤ length o → PutAt (endedText step) o at at o
+pub goes-on-put : (step : Step) {o : List ℕ} {at : ℕ} → step .ended ≡ false → at ≤ length o
+    → PutAt (endedText step) o at at o
 goes-on-put step {o} {at} h b = rw h (record { behind = omega arith; laid = sym (put-nothing at o b) })
 
 -- the text of what is left begins with that of the line that the step ended
 step-text : (line : Line) (l : List ℕ) → line .count ≤ MOST
-    → chunkText line l ≡ endedText (advanced line l) ++ chunkText (nextLine (advanced line l)) (drop (advanced line l .used) l)
+    → chunkText line l
+    ≡ endedText (advanced line l) ++ chunkText (nextLine (advanced line l)) (drop (advanced line l .used) l)
 unfolding printed
 step-text line l h =
     ap (λ (k : List Line). printed (map (judgedLine MAX-LINE) k)) (finished-advance line l h)
@@ -84,12 +82,14 @@ telling-none h r =
 
 module _ {line : Line} {chunk out o : List ℕ} {current : Line} {at n : ℕ} (p : Telling line chunk out o current at n) where
   -- what is written at the end of the chunk
-  pub telling-all : length chunk ≤ at → (current ≡ begun line chunk) × (n ≡ length (chunkText line chunk)) × (o ≡ put 0 (chunkText line chunk) out)
+  pub telling-all : length chunk ≤ at
+      → (current ≡ begun line chunk) × (n ≡ length (chunkText line chunk)) × (o ≡ put 0 (chunkText line chunk) out)
   unfolding begun finished printed
   telling-all h =
       let none = drop-of-length-le chunk h in
       let b = rw none at (p .bytes) in
-      (rw none at (p .same), omega (arith, b), sym (put-nothing n o (omega (arith, b, p .long, p .room, chunk-short line chunk))) ∙ (rw none at (p .laid)))
+      let room : n ≤ length o = omega (arith, b, p .long, p .room, chunk-short line chunk) in
+      (rw none at (p .same), omega (arith, b), sym (put-nothing n o room) ∙ (rw none at (p .laid)))
 
   module _ (s : Step) (h : at < length chunk) (e : s ≡ advanced current (take (length chunk - at) (drop at chunk))) where
     -- the text of the step stands in front of what is left
@@ -102,7 +102,8 @@ module _ {line : Line} {chunk out o : List ℕ} {current : Line} {at n : ℕ} (p
     pub step-room : n + length (endedText s) ≤ length o
     step-room =
         let rest = chunkText (nextLine s) (drop (at + s .used) chunk) in
-        omega (arith, ap length text-split, length-append (endedText s) rest, p .bytes, p .long, p .room, chunk-short line chunk)
+        let both = length-append (endedText s) rest in
+        omega (arith, ap length text-split, both, p .bytes, p .long, p .room, chunk-short line chunk)
 
     -- one turn
     pub telling-more : {o₁ : List ℕ} {m : ℕ} {next : Line} → PutAt (endedText s) o n m o₁ → next ≡ nextLine s
@@ -138,10 +139,13 @@ begun-short line false = omega arith
 pub last-refused : (line : Line) (out : List ℕ) → length out < MOST-TEXT
     → LastTold line out (noRoom line) out
 unfolding lastReport lastOutput
-last-refused line out h = record { result = rw (lt-ltb (length out) MOST-TEXT h); output = rw (lt-ltb (length out) MOST-TEXT h) }
+last-refused line out h =
+    let short = lt-ltb (length out) MOST-TEXT h in
+    record { result = rw short; output = rw short }
 
 -- with room the line is told of as one that a step ended
-pub last-told : (line : Line) {out o : List ℕ} {t : Bool} {next : Line} {n : ℕ} → MOST-TEXT ≤ length out → t ≡ isBegun line → next ≡ fresh
+pub last-told : (line : Line) {out o : List ℕ} {t : Bool} {next : Line} {n : ℕ}
+    → MOST-TEXT ≤ length out → t ≡ isBegun line → next ≡ fresh
     → PutAt (cond t (textOf (judgedLine MAX-LINE line)) []) out 0 n o
     → LastTold line out (record { answer = Done; line = next; length = n }) o
 unfolding lastReport lastOutput
@@ -156,58 +160,19 @@ last-told line {out} {o} {t} {next} {n} h e f p =
 -- ---- a chunk
 
 -- without room nothing is written
-pub chunk-refused : (line : Line) (chunk out : List ℕ) → length out < MOST-TEXT * length chunk → ChunkTold line chunk out (noRoom line) out
+pub chunk-refused : (line : Line) (chunk out : List ℕ) → length out < MOST-TEXT * length chunk
+    → ChunkTold line chunk out (noRoom line) out
 unfolding chunkReport chunkOutput
 chunk-refused line chunk out h =
-    record {
-      result = rw (lt-ltb (length out) (MOST-TEXT * length chunk) h);
-      output = rw (lt-ltb (length out) (MOST-TEXT * length chunk) h);
-    }
+    let short = lt-ltb (length out) (MOST-TEXT * length chunk) h in
+    record { result = rw short; output = rw short }
 
 -- with room, after the last turn
-pub chunk-told : {line : Line} {chunk out o : List ℕ} {current : Line} {at n : ℕ} → Telling line chunk out o current at n
-    → length chunk ≤ at → ChunkTold line chunk out (record { answer = Done; line = current; length = n }) o
+pub chunk-told : {line : Line} {chunk out o : List ℕ} {current : Line} {at n : ℕ}
+    → Telling line chunk out o current at n → length chunk ≤ at
+    → ChunkTold line chunk out (record { answer = Done; line = current; length = n }) o
 unfolding chunkReport chunkOutput
 chunk-told {line} {chunk} {out} {o} {current} {at} {n} p h =
     let room = le-ltb (length out) (MOST-TEXT * length chunk) (p .room) in
     let all = telling-all p h in
     record { result = rw (room, all .0, all .1); output = rw room (all .2) }
-
--- ---- all chunks
-
--- a chunk with room: the bytes written are its text, and the line begun goes on
-pub chunk-wrote : {line : Line} {chunk out : List ℕ} {report : Told} {out′ : List ℕ} → MOST-TEXT * length chunk ≤ length out
-    → ChunkTold line chunk out report out′
-    → (report .line ≡ begun line chunk) × (report .length ≤ length out′) × (take (report .length) out′ ≡ chunkText line chunk)
-unfolding chunkReport chunkOutput
-chunk-wrote {line} {chunk} {out} {report} {out′} h p =
-    let room = le-ltb (length out) (MOST-TEXT * length chunk) h in
-    let r = rw room at (p .result) in
-    let o = rw room at (p .output) in
-    let fits : 0 + length (chunkText line chunk) ≤ length out = omega (arith, chunk-short line chunk) in
-    (rw r, rw (r, o, length-put 0 (chunkText line chunk) out) (omega arith), rw (r, o) (part-put 0 (chunkText line chunk) out fits))
-
--- the end of the input, with room
-pub last-wrote : {line : Line} {out : List ℕ} {report : Told} {out′ : List ℕ} → MOST-TEXT ≤ length out
-    → LastTold line out report out′ → (report .length ≤ length out′) × (take (report .length) out′ ≡ lastText line)
-unfolding lastReport lastOutput
-last-wrote {line} {out} {report} {out′} h p =
-    let room = le-ltb (length out) MOST-TEXT h in
-    let r = rw room at (p .result) in
-    let o = rw room at (p .output) in
-    let fits : 0 + length (lastText line) ≤ length out = rw (last-text line) (omega (arith, begun-short line (isBegun line))) in
-    (rw (r, o, length-put 0 (lastText line) out) (omega arith), rw (r, o) (part-put 0 (lastText line) out fits))
-
--- a run writes the text of all that is said
-run-printed : {line : Line} {chunks : List (List ℕ)} {bytes : List ℕ} → Run line chunks bytes → bytes ≡ printed (toldAll MAX-LINE line chunks)
-unfolding toldAll
-run-printed (end h p) = last-wrote h p .1
-run-printed (more {line} {chunk} {chunks = chunks} h p r) =
-    let wrote = chunk-wrote h p in
-    ap₂ (λ (a b : List ℕ). a ++ b) (wrote .2) (run-printed r ∙ ap (λ (k : Line). printed (toldAll MAX-LINE k chunks)) (wrote .0))
-    ∙ sym (printed-append (told MAX-LINE line chunk) (toldAll MAX-LINE (begun line chunk) chunks))
-
--- however an input is cut into chunks, a run over them writes the text of its lines, in order
-pub run-lines : {chunks : List (List ℕ)} {bytes : List ℕ} → Run fresh chunks bytes
-    → bytes ≡ printed (map (judged MAX-LINE) (lines (flatten chunks)))
-run-lines {chunks} r = run-printed r ∙ ap printed (told-lines MAX-LINE chunks limit-counted)

@@ -3,7 +3,6 @@ use mathlib.Core.Bool.{Bool, true, false, cond}
 use mathlib.Core.List.{List, [], _∷_, _++_, map, append-nil, append-assoc}
 use mathlib.Core.Path.{_≡_, refl, sym, ap, _∙_}
 use Prim.Native.Nat.{ℕ, suc, _+_, _-_, _*_, _/_, _%_, _^_, _≤_, _<_}
-use native.Mathlib.Nat.{mul-suc}
 use native.Mathlib.Omega.{arith}
 use borrow.Author.Tests.{eq-eqb, ne-eqb, ltb-false}
 use lib.Dec.{eqb, ltb}
@@ -13,9 +12,9 @@ use Rattle.record.specs.Limits.{IV-LEN}
 use Rattle.sizes.specs.Sizes.{MIN-RECORD, MAX-BODY, sizeAnswer, macSteps, totalSteps}
 use Rattle.lines.specs.Input.{NEWLINE}
 use Rattle.lines.specs.Judgement.{MAX-LINE, Sized, Long, Bad, unsized, sized, judgement, judgedLine}
-use Rattle.lines.specs.Reading.{fresh, taken, finished, atEnd, isBegun, told}
+use Rattle.lines.specs.Reading.{fresh, taken, finished, atEnd, isBegun}
 use Rattle.lines.specs.Telling.{MOST-TEXT, chunkText, lastText}
-use Rattle.lines.specs.Text.{SPACE, decimal, long, bad, numeral, numbers, textOf, printed}
+use Rattle.lines.specs.Text.{decimal, long, bad, numeral, numbers, textOf, printed}
 use Rattle.lines.specs.declared.Judged.{Judged}
 use Rattle.lines.specs.declared.Line.{Line}
 use Rattle.lines.proofs.Decimal.{decimal-short}
@@ -56,7 +55,8 @@ numbers-short a b c h i j =
     omega (arith, length-numbers a b c, decimal-short 19 a h, decimal-short 2 b i, decimal-short 19 c j)
 
 -- a text has room, whatever its kind
-pub text-short : (j : Judged) → j .«record_len» < 10 ^ 20 → j .answer < 10 ^ 3 → j .total < 10 ^ 20 → length (textOf j) ≤ MOST-TEXT
+pub text-short : (j : Judged) → j .«record_len» < 10 ^ 20 → j .answer < 10 ^ 3 → j .total < 10 ^ 20
+    → length (textOf j) ≤ MOST-TEXT
 unfolding textOf
 text-short j a b c =
     by (eqb (j .kind) Sized) (eqb (j .kind) Long) (numbers-short (j .«record_len») (j .answer) (j .total) a b c)
@@ -93,7 +93,8 @@ unfolding judgement textOf
 line-short line = by (ltb MAX-LINE (line .count)) refl (eqb (line .count % 2) 0) (line .hex)
   where
     by : (s : Bool) → ltb MAX-LINE (line .count) ≡ s → (t u : Bool)
-        → length (textOf (cond s (unsized Long) (cond t (cond u (sized (line .count / 2)) (unsized Bad)) (unsized Bad)))) ≤ MOST-TEXT
+        → length (textOf (cond s (unsized Long) (cond t (cond u (sized (line .count / 2)) (unsized Bad)) (unsized Bad))))
+        ≤ MOST-TEXT
     by true e t u = omega arith
     by false e true true = sized-short (line .count / 2) (omega (arith, ltb-false MAX-LINE (line .count) e))
     by false e true false = omega arith
@@ -118,7 +119,8 @@ pub last-text : (line : Line) → lastText line ≡ cond (isBegun line) (textOf 
 unfolding atEnd printed
 last-text line = by (isBegun line)
   where
-    by : (t : Bool) → printed (map (judgedLine MAX-LINE) (cond t (line ∷ []) [])) ≡ cond t (textOf (judgedLine MAX-LINE line)) []
+    by : (t : Bool) → printed (map (judgedLine MAX-LINE) (cond t (line ∷ []) []))
+        ≡ cond t (textOf (judgedLine MAX-LINE line)) []
     by true = append-nil (textOf (judgedLine MAX-LINE line))
     by false = refl
 

@@ -1,10 +1,10 @@
 -- Texts laid over an output, one behind the other. Assumes nothing.
 use mathlib.Core.List.{List, [], _++_}
 use mathlib.Core.Path.{_≡_, sym, ap, _∙_}
-use Prim.Native.Nat.{ℕ, _+_, _≤_}
+use Prim.Native.Nat.{ℕ, _≤_}
 use native.Mathlib.Nat.{add-zero}
 use native.Mathlib.Omega.{arith}
-use lib.ListN.{length, take, drop, length-append, take-append-drop}
+use lib.ListN.{length, take, length-append, take-append-drop}
 use Rattle.words.specs.Lists.{put}
 use Rattle.words.proofs.Lists.{length-put, put-fits}
 use Rattle.words.proofs.Puts.{put-put, part-put}
@@ -15,7 +15,8 @@ pub put-long : {x o o₁ : List ℕ} {at n : ℕ} → PutAt x o at n o₁ → le
 put-long {x} {o} {at = at} p = ap length (p .laid) ∙ length-put at x o
 
 -- y behind x is x and y as one
-pub put-after : {x y o o₁ o₂ : List ℕ} {at n m : ℕ} → PutAt x o at n o₁ → PutAt y o₁ n m o₂ → m ≤ length o → PutAt (x ++ y) o at m o₂
+pub put-after : {x y o o₁ o₂ : List ℕ} {at n m : ℕ}
+    → PutAt x o at n o₁ → PutAt y o₁ n m o₂ → m ≤ length o → PutAt (x ++ y) o at m o₂
 put-after {x} {y} {o} {at = at} {n} {m} p q h =
     record {
       behind = omega (arith, length-append x y, p .behind, q .behind);

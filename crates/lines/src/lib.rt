@@ -1,5 +1,5 @@
-// Lines of hexadecimal, read in parts of any size, judged by their length, and told of in bytes: what the program `lengths`
-// stands on.
+// Lines of hexadecimal, read in parts of any size, judged by their length, and told of in bytes: what the program
+// `lengths` stands on.
 // A character is a byte. Of the line being read only a count and a mark are kept, so that no line is too long to be read. Nothing
 // here is secret.
 ghost use mathlib.Core.Path.{_≡_};
@@ -275,7 +275,8 @@ fn put_text(judged: Judged, out: &mut [u8]) -> usize
     4
 }
 
-// The text of a judgement, laid over out from index at on, as much of it as there is room for; and how many bytes it is long.
+// The text of a judgement, laid over out from index at on, as much of it as there is room for; and how many bytes it is
+// long.
 pub fn put_judged(judged: Judged, out: &mut [u8], at: usize) -> usize
     ensures { λ r. ⌜ JudgedPut judged (now (out .entry)) at r (now (out .exit)) ⌝ }
 {
@@ -285,7 +286,8 @@ pub fn put_judged(judged: Judged, out: &mut [u8], at: usize) -> usize
     n
 }
 
-// The text of the line that a step ended, behind the bytes so far, and how many they are then; of a line that goes on, nothing.
+// The text of the line that a step ended, behind the bytes so far, and how many they are then; of a line that goes on,
+// nothing.
 fn put_ended(step: Step, out: &mut [u8], so_far: usize) -> usize
     requires { ⌜ «so_far» + length (endedText step) ≤ length (now out) ⌝ }
     ensures { λ r. ⌜ PutAt (endedText step) (now (out .entry)) «so_far» r (now (out .exit)) ⌝ }
@@ -311,8 +313,8 @@ pub struct Told {
     pub length: usize,
 }
 
-// Writes the texts of the lines that end in a chunk, the first of them begun before it. Refused where the output has no room
-// for a text of each byte of the chunk.
+// Writes the texts of the lines that end in a chunk, the first of them begun before it. Refused where the output has no
+// room for a text of each byte of the chunk.
 pub fn tell(line: Line, chunk: &[u8], out: &mut [u8]) -> Told
     ensures { λ r. ⌜ ChunkTold line (now (chunk .entry)) (now (out .entry)) r (now (out .exit)) ⌝ }
 {
@@ -339,8 +341,8 @@ pub fn tell(line: Line, chunk: &[u8], out: &mut [u8]) -> Told
     }
 }
 
-// Writes the text of the line that is begun where the input ends, if it is not empty. Refused where the output has no room for
-// a text.
+// Writes the text of the line that is begun where the input ends, if it is not empty. Refused where the output has no
+// room for a text.
 pub fn tell_last(line: Line, out: &mut [u8]) -> Told
     ensures { λ r. ⌜ LastTold line (now (out .entry)) r (now (out .exit)) ⌝ }
 {

@@ -3,7 +3,7 @@ use mathlib.Core.Path.{sym}
 use native.Mathlib.Omega.{arith}
 use borrow.Author.Needs.{needs}
 use lib.Seq.{length-take-le}
-use Rattle.lines.proofs.Telling.{last-wrote}
+use Rattle.lines.proofs.Run.{last-wrote}
 use Rattle.lengths.proofs.finish.Statement.{statement}
 use Rattle.lengths.proofs.finish.Tie as tie
 
@@ -11,7 +11,8 @@ array-share-prefix-out : tie.Need-array-share-prefix-out
 array-share-prefix-out c = last-wrote (omega arith) (c .before .tell-last .ensures) .0
 
 slice-aggregate-write-all : tie.Need-slice-aggregate-write-all
-slice-aggregate-write-all c = sym (length-take-le _ _ (last-wrote (omega arith) (c .before .before .tell-last .ensures) .0))
+slice-aggregate-write-all c =
+    sym (length-take-le _ _ (last-wrote (omega arith) (c .before .before .tell-last .ensures) .0))
 
 pub finish-spec : {M : Type 1} → statement M
 finish-spec =

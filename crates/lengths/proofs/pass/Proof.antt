@@ -7,7 +7,7 @@ use borrow.Author.Needs.{needs}
 use lib.ListN.{length}
 use lib.Seq.{length-take-le}
 use Rattle.lines.specs.Reading.{begun}
-use Rattle.lines.proofs.Telling.{chunk-wrote}
+use Rattle.lines.proofs.Run.{chunk-wrote}
 use Rattle.lengths.proofs.pass.Statement.{statement}
 use Rattle.lengths.proofs.pass.Tie as tie
 

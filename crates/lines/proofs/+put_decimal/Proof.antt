@@ -1,10 +1,9 @@
--- The proof of the cycle of calls {put_decimal}. The measure is the number, of which each call takes a tenth. What is written are
--- the digits of the tenth, and behind them the last one. Assumes nothing.
-use Prim.Native.Nat.{ℕ, _/_, _≤_, _<_}
+-- The proof of the cycle of calls {put_decimal}. The measure is the number, of which each call takes a tenth.
+-- What is written are the digits of the tenth, and behind them the last one. Assumes nothing.
+use Prim.Native.Nat.{ℕ, _≤_, _<_}
 use native.Mathlib.Omega.{arith}
 use borrow.Fn.Kinds.{In}
 use borrow.Fn.PlainCycle.{Measures, is, falls, and}
-use lib.ListN.{length}
 use Rattle.lines.proofs.Decimal.{decimal-one, decimal-more, length-more}
 use Rattle.lines.proofs.Writing.{put-long, put-after}
 use Rattle.lines.proofs.put_byte.Reads as put-byte-reads
@@ -54,7 +53,8 @@ put-byte-requires-2 : (t : ℕ) → put-decimal-lts.Need-put-byte-requires-2 (cl
 put-byte-requires-2 t c κs =
     let s = c .before .before .before .before .before .before .before in
     let tenth = c .before .before .before .put-decimal .ensures in
-    omega (arith, s .pre .1, length-more (s .args .n) (c .before .before .before .before .before .if1 .left), tenth .behind, put-long tenth)
+    let more = length-more (s .args .n) (c .before .before .before .before .before .if1 .left) in
+    omega (arith, s .pre .1, more, tenth .behind, put-long tenth)
 
 returns-2 : (t : ℕ) → put-decimal-lts.Need-returns-2 (claims t) (put-decimal-at t) put-decimal.Post
 returns-2 t c =

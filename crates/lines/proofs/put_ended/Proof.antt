@@ -1,8 +1,7 @@
--- `lines::put_ended` meets its contract: of a line that ended it lays the text, of one that goes on nothing. Assumes nothing.
+-- `lines::put_ended` meets its contract: of a line that ended it lays the text, of one that goes on nothing.
+-- Assumes nothing.
 use native.Mathlib.Omega.{arith}
 use borrow.Author.Needs.{needs}
-use Rattle.lines.specs.Telling.{endedText}
-use Rattle.lines.specs.Text.{PutAt}
 use Rattle.lines.proofs.Telling.{ended-put, goes-on-put}
 use Rattle.lines.proofs.Writing.{put-long}
 use Rattle.lines.proofs.put_ended.Statement.{statement}

@@ -1,32 +1,32 @@
--- `lines::put_judged` meets its contract: what is copied is what `put_text` laid in front of the zeros. Assumes nothing.
+-- `lines::put_judged` meets its contract: what is copied is what `put_text` laid in front of the zeros.
+-- Assumes nothing.
 use mathlib.Core.List.{List}
-use mathlib.Core.Path.{_≡_, sym, ap, _∙_}
+use mathlib.Core.Path.{sym, ap, _∙_}
 use Prim.Native.Nat.{ℕ}
 use native.Mathlib.Omega.{arith}
 use borrow.Author.Needs.{needs}
-use lib.ListN.{length, take}
+use lib.ListN.{length}
 use lib.Seq.{length-take-le}
 use Rattle.words.specs.Lists.{put}
 use Rattle.words.proofs.Lists.{length-put}
-use Rattle.lines.specs.Text.{textOf}
 use Rattle.lines.proofs.Writing.{put-long, put-front}
 use Rattle.lines.proofs.put_judged.Statement.{statement}
 use Rattle.lines.proofs.put_judged.Tie as tie
 
 slice-aggregate-copy-at : tie.Need-slice-aggregate-copy-at
 slice-aggregate-copy-at c =
-    let put = c .before .before .before .put-text .ensures in
-    sym (length-take-le _ _ (omega (arith, put .1, put-long (put .0))))
+    let text = c .before .before .before .put-text .ensures in
+    sym (length-take-le _ _ (omega (arith, text .1, put-long (text .0))))
 
 returns : tie.Need-returns
 returns c =
     let s = c .before .before .before .before .before .before .before .before .before in
-    let put = c .before .before .before .before .before .before .put-text .ensures in
+    let text = c .before .before .before .before .before .before .put-text .ensures in
     record {
-      result = omega (arith, put .0 .behind);
+      result = omega (arith, text .0 .behind);
       output =
           c .before .before .copy-at .ensures .output
-          ∙ ap (λ (x : List ℕ). Rattle.words.specs.Lists.put (s .args .at) x (s .args .out .now)) (put-front (put .0) (put .1));
+          ∙ ap (λ (x : List ℕ). put (s .args .at) x (s .args .out .now)) (put-front (text .0) (text .1));
     }
 
 same-length : tie.Need-same-length

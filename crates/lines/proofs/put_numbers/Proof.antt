@@ -29,9 +29,13 @@ put-numeral-requires-2 c κs =
 
 -- the first two numbers
 two : (c : tie.After-put-numeral2)
-    → PutAt (numeral (c .before .before .before .before .before .before .before .args .a) SPACE
+    → PutAt
+    (numeral (c .before .before .before .before .before .before .before .args .a) SPACE
     ++ numeral (c .before .before .before .before .before .before .before .args .b) SPACE)
-    (c .before .before .before .before .before .before .before .args .out .now) 0 (c .put-numeral2 .result) (c .put-numeral2 .last .1 .1 .0)
+    (c .before .before .before .before .before .before .before .args .out .now)
+    0
+    (c .put-numeral2 .result)
+    (c .put-numeral2 .last .1 .1 .0)
 two c =
     let s = c .before .before .before .before .before .before .before in
     let first = c .before .before .before .before .put-numeral .ensures in
@@ -62,14 +66,24 @@ put-numeral-requires-3 c κs =
       put-long front,
     )
 
+-- and the third, which a newline ends
+third : (c : tie.After-put-numeral3)
+    → PutAt
+    (numeral (c .before .before .before .before .before .before .before .before .before .before .before .args .c) NEWLINE)
+    (c .before .before .before .before .put-numeral2 .last .1 .1 .0)
+    (c .before .before .before .before .put-numeral2 .result)
+    (c .put-numeral3 .result)
+    (c .put-numeral3 .last .1 .1 .0)
+third c = c .put-numeral3 .ensures
+
 returns : tie.Need-returns
 unfolding numbers
 returns c =
     let s = c .before .before .before .before .before .before .before .before .before .before .before .before .before in
     let front = two (c .before .before .before .before .before .before) in
-    let third = c .before .before .put-numeral3 .ensures in
+    let behind = third (c .before .before) in
     rw (← append-assoc (numeral (s .args .a) SPACE) (numeral (s .args .b) SPACE) (numeral (s .args .c) NEWLINE))
-    (put-after front third
+    (put-after front behind
     (omega (
       arith,
       s .pre,
@@ -79,7 +93,7 @@ returns c =
       length-numeral (s .args .c) NEWLINE,
       length-append (numeral (s .args .a) SPACE) (numeral (s .args .b) SPACE),
       front .behind,
-      third .behind,
+      behind .behind,
     )))
 
 same-length : tie.Need-same-length

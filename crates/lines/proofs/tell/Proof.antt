@@ -1,5 +1,5 @@
--- `lines::tell` meets its contract. The loop's invariant: what is written and what the rest of the chunk has to say are the text
--- of the whole chunk; the measure is what is left of the chunk. Assumes nothing.
+-- `lines::tell` meets its contract. The loop's invariant: what is written and what the rest of the chunk has to say are
+-- the text of the whole chunk; the measure is what is left of the chunk. Assumes nothing.
 use Prim.Native.Nat.{_-_}
 use native.Mathlib.Omega.{arith}
 use borrow.Author.Needs.{needs}
@@ -45,8 +45,9 @@ loop-less c = omega (arith, turn c .moves, turn c .inside)
 loop-again : tie.Need-loop-again Inv-loop μ-loop
 loop-again c =
     let step = c .before .before .before .before .before .before in
-    telling-more (step .before .before .before .loop .inv) (step .advance .result) (step .before .before .loop-test .taken)
-    (step .advance .ensures) (c .before .before .before .before .put-ended .ensures) (c .before .next-line .ensures)
+    telling-more (step .before .before .before .loop .inv) (step .advance .result)
+    (step .before .before .loop-test .taken) (step .advance .ensures)
+    (c .before .before .before .before .put-ended .ensures) (c .before .next-line .ensures)
 
 same-length : tie.Need-same-length Inv-loop μ-loop
 same-length c = c .before .loop .inv .long

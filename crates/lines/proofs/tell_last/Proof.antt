@@ -1,12 +1,6 @@
 -- `lines::tell_last` meets its contract: the line begun is told of as one that a step ended. Assumes nothing.
-use mathlib.Core.Bool.{Bool, cond}
-use mathlib.Core.List.{List, []}
-use mathlib.Core.Path.{_≡_, refl, sym, ap, _∙_}
 use native.Mathlib.Omega.{arith}
 use borrow.Author.Needs.{needs}
-use borrow.Author.Tests.{lt-ltb, le-ltb}
-use lib.ListN.{length}
-use Rattle.lines.specs.Telling.{MOST-TEXT, lastReport, lastOutput}
 use Rattle.lines.proofs.Telling.{last-refused, last-told, begun-short}
 use Rattle.lines.proofs.Writing.{put-long}
 use Rattle.lines.proofs.tell_last.Statement.{statement}
