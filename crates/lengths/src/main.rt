@@ -1,10 +1,11 @@
 // Reads lines of hexadecimal, one record a line, and prints for each the record's length, its size answer and the number
 // of steps that opening it takes, or `long` or `bad`. What is printed is made by `lines`: here bytes are read and written.
 // The buffers stay as they are, however long a line or the input is.
+ghost use mathlib.Core.Bool.{false};
 ghost use mathlib.Core.Path.{_≡_};
 ghost use Prim.Native.Nat.{_≤_};
 ghost use lib.ListN.{length};
-ghost use Rattle.lines.specs.Reading.{begun};
+ghost use Rattle.lines.specs.Reading.{fresh, begun};
 use libc::STDIN_FILENO;
 use libc::STDOUT_FILENO;
 use lines::Line;
@@ -33,16 +34,21 @@ fn pass(line: Line, chunk: &[u8]) -> Line
     told.line
 }
 
-// Prints the line that is begun where the input ends.
-fn finish(line: Line) {
+// Prints the line that is begun where the input ends, and returns a fresh one.
+fn finish(line: Line) -> Line
+    ensures { λ r. ⌜ r ≡ fresh ⌝ }
+{
     let mut out = [0u8; MOST_TEXT];
     let told = lines::tell_last(line, &mut out);
     let n = told.length;
     io::write_all(STDOUT_FILENO, &out[..n]);
+    told.line
 }
 
-// Reads once. A read that fails ends the input, as one that finds nothing does.
-fn read_some(line: Line) -> Read {
+// Reads once. A read that fails ends the input, as one that finds nothing does, and the line begun stays.
+fn read_some(line: Line) -> Read
+    ensures { λ r. ⌜ (r .more ≡ false → r .line ≡ line) ⌝ }
+{
     let mut buffer = io::buffer();
     let got = libc::read(STDIN_FILENO, &mut buffer);
     if got <= 0 {

@@ -37,7 +37,7 @@ chunk-wrote {line} {chunk} {out} {report} {out′} h p =
 
 -- the end of the input, with room
 pub last-wrote : {line : Line} {out : List ℕ} {report : Told} {out′ : List ℕ} → MOST-TEXT ≤ length out
-    → LastTold line out report out′ → (report .length ≤ length out′) × (take (report .length) out′ ≡ lastText line)
+    → LastTold line out report out′ → (report .line ≡ fresh) × (report .length ≤ length out′) × (take (report .length) out′ ≡ lastText line)
 unfolding lastReport lastOutput
 last-wrote {line} {out} {report} {out′} h p =
     let room = le-ltb (length out) MOST-TEXT h in
@@ -45,13 +45,13 @@ last-wrote {line} {out} {report} {out′} h p =
     let o = rw room at (p .output) in
     let short = begun-short line (isBegun line) in
     let fits : 0 + length (lastText line) ≤ length out = rw (last-text line) (omega (arith, short)) in
-    (rw (r, o, length-put 0 (lastText line) out) (omega arith), rw (r, o) (part-put 0 (lastText line) out fits))
+    (rw r, rw (r, o, length-put 0 (lastText line) out) (omega arith), rw (r, o) (part-put 0 (lastText line) out fits))
 
 -- a run writes the text of all that is said
 run-printed : {line : Line} {chunks : List (List ℕ)} {bytes : List ℕ} → Run line chunks bytes
     → bytes ≡ printed (toldAll MAX-LINE line chunks)
 unfolding toldAll
-run-printed (end h p) = last-wrote h p .1
+run-printed (end h p) = last-wrote h p .2
 run-printed (more {line} {chunk} {chunks = chunks} h p r) =
     let wrote = chunk-wrote h p in
     let rest = run-printed r ∙ ap (λ (k : Line). printed (toldAll MAX-LINE k chunks)) (wrote .0) in

@@ -1,18 +1,30 @@
--- `lengths::finish` is safe: what `tell_last` wrote lies inside the output. Assumes nothing.
-use mathlib.Core.Path.{sym}
+-- `lengths::finish` meets its contract: the output has room for a text, so nothing stays begun. Assumes nothing.
+use mathlib.Core.Path.{_≡_, sym}
+use Prim.Native.Nat.{_≤_}
 use native.Mathlib.Omega.{arith}
 use borrow.Author.Needs.{needs}
+use lib.ListN.{length}
 use lib.Seq.{length-take-le}
+use Rattle.lines.specs.Reading.{fresh}
 use Rattle.lines.proofs.Run.{last-wrote}
 use Rattle.lengths.proofs.finish.Statement.{statement}
 use Rattle.lengths.proofs.finish.Tie as tie
 
+-- what `tell_last` leaves
+wrote : (c : tie.After-tell-last)
+    → (c .tell-last .result .line ≡ fresh) × (c .tell-last .result .length ≤ length (c .tell-last .last .1 .0))
+wrote c =
+    let w = last-wrote (omega arith) (c .tell-last .ensures) in
+    (w .0, w .1)
+
 array-share-prefix-out : tie.Need-array-share-prefix-out
-array-share-prefix-out c = last-wrote (omega arith) (c .before .tell-last .ensures) .0
+array-share-prefix-out c = wrote (c .before) .1
 
 slice-aggregate-write-all : tie.Need-slice-aggregate-write-all
-slice-aggregate-write-all c =
-    sym (length-take-le _ _ (last-wrote (omega arith) (c .before .before .tell-last .ensures) .0))
+slice-aggregate-write-all c = sym (length-take-le _ _ (wrote (c .before .before) .1))
+
+returns : tie.Need-returns
+returns c = wrote (c .before .before .before .before) .0
 
 pub finish-spec : {M : Type 1} → statement M
 finish-spec =
@@ -23,4 +35,4 @@ finish-spec =
     array-share-prefix-out
     slice-aggregate-write-all
     (λ c κs. search needs)
-    (λ c. search needs))
+    returns)
