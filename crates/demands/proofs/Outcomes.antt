@@ -15,6 +15,7 @@ use Rattle.border.proofs.OneOutcome.{OpenedFor-one-outcome, Enciphered-one-outc
 use Rattle.border.proofs.OneOutcome.{Deciphered-one-outcome as border-Deciphered-one-outcome}
 use Rattle.border.proofs.OneOutcome.{MasterSecretFor-one-outcome, KeyBlockFor-one-outcome, FinishedFor-one-outcome}
 use Rattle.border.proofs.OneOutcome.{StartedFor-one-outcome, TakenFor-one-outcome, DigestedFor-one-outcome}
+use Rattle.lines.proofs.OneOutcome.{JudgedPut-one-outcome, ChunkTold-one-outcome, LastTold-one-outcome}
 use Rattle.demands.specs.Outcomes.{Outcomes}
 
 -- what equals one thing is one
@@ -117,4 +118,7 @@ outcomes =
       «lines::is_begun» = λ line. equation-one-outcome _;
       «lines::judge» = λ line «max_line». equation-one-outcome _;
       «lines::judge_line» = λ line. equation-one-outcome _;
+      «lines::put_judged» = λ judged out at _ _ _ _. JudgedPut-one-outcome;
+      «lines::tell» = λ line chunk out _ _ _ _. ChunkTold-one-outcome;
+      «lines::tell_last» = λ line out _ _ _ _. LastTold-one-outcome;
     }

@@ -49,6 +49,8 @@ use Rattle.lines.specs.Hexadecimal.{isHex, allHex}
 use Rattle.lines.specs.Input.{front}
 use Rattle.lines.specs.declared.Line.{Line}
 use Rattle.lines.specs.Judgement.{judgedLine, MAX-LINE}
+use Rattle.lines.specs.Promise.{JudgedPut, ChunkTold, LastTold}
+use Rattle.lines.specs.declared.Judged.{Judged}
 
 -- the result is one, where a bare equation gives it
 abbrev pub Equation : {R : Type 0} → R → Type 0
@@ -200,3 +202,6 @@ pub record Outcomes : Type 0 where
   pub «lines::is_begun» : (line : Line) → Equation (isBegun line)
   pub «lines::judge» : (line : Line) («max_line» : ℕ) → Equation (judgedLine «max_line» line)
   pub «lines::judge_line» : (line : Line) → Equation (judgedLine MAX-LINE line)
+  pub «lines::put_judged» : (judged : Judged) (out : List ℕ) (at : ℕ) → Two (JudgedPut judged out at)
+  pub «lines::tell» : (line : Line) (chunk out : List ℕ) → Two (ChunkTold line chunk out)
+  pub «lines::tell_last» : (line : Line) (out : List ℕ) → Two (LastTold line out)

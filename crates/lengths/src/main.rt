@@ -1,15 +1,20 @@
-// Reads lines of hexadecimal, one record a line, and prints for each the record's length, its size answer and the number of
-// steps that opening it takes, or `long` or `bad`. It holds one buffer, however long a line or the input is.
-ghost use mathlib.Core.Bool.{cond};
+// Reads lines of hexadecimal, one record a line, and prints for each the record's length, its size answer and the number
+// of steps that opening it takes, or `long` or `bad`. What is printed is made by `lines`: here bytes are read and written.
+// The buffers stay as they are, however long a line or the input is.
+ghost use mathlib.Core.Bool.{false};
 ghost use mathlib.Core.Path.{_≡_};
+ghost use Prim.Native.Nat.{_≤_};
+ghost use lib.ListN.{length};
 ghost use Rattle.lines.specs.Reading.{fresh, begun};
 use libc::STDIN_FILENO;
 use libc::STDOUT_FILENO;
-use lines::BAD;
-use lines::Judged;
-use lines::LONG;
 use lines::Line;
-use lines::Step;
+use lines::MOST_TEXT;
+
+// The most bytes of one read, and room for all that can be told of them.
+const CHUNK: usize = 4096;
+
+const ROOM: usize = MOST_TEXT * CHUNK;
 
 // Whether the input goes on, and the line that is begun.
 struct Read {
@@ -17,56 +22,34 @@ struct Read {
     line: Line,
 }
 
-fn text(s: &[u8]) {
-    io::write_all(STDOUT_FILENO, s);
-}
-
-fn print(judged: Judged) {
-    if judged.kind == LONG {
-        text(b"long\n");
-        return;
-    }
-    if judged.kind == BAD {
-        text(b"bad\n");
-        return;
-    }
-    io::print_decimal(STDOUT_FILENO, judged.record_len as u64);
-    text(b" ");
-    io::print_decimal(STDOUT_FILENO, judged.answer as u64);
-    text(b" ");
-    io::print_decimal(STDOUT_FILENO, judged.total as u64);
-    text(b"\n");
-}
-
-// Prints the line that a step ended, and returns the line to go on with.
-fn print_ended(step: Step) -> Line
-    ensures { λ r. ⌜ r ≡ cond (step .ended) fresh (step .line) ⌝ }
+// Prints the lines that end in a chunk, and returns the one that it leaves begun.
+fn pass(line: Line, chunk: &[u8]) -> Line
+    requires { ⌜ length (now chunk) ≤ 4096 ⌝ }
+    ensures { λ r. ⌜ r ≡ begun line (now (chunk .entry)) ⌝ }
 {
-    if step.ended {
-        print(lines::judge_line(step.line));
-        lines::start_line()
-    } else {
-        step.line
-    }
+    let mut out = [0u8; ROOM];
+    let told = lines::tell(line, chunk, &mut out);
+    let n = told.length;
+    io::write_all(STDOUT_FILENO, &out[..n]);
+    told.line
 }
 
-// Prints the lines that end in a part of the input, and returns the one that it leaves begun.
-fn pass(line: Line, input: &[u8]) -> Line
-    ensures { λ r. ⌜ r ≡ begun line (now (input .entry)) ⌝ }
+// Prints the line that is begun where the input ends, and returns a fresh one.
+fn finish(line: Line) -> Line
+    ensures { λ r. ⌜ r ≡ fresh ⌝ }
 {
-    let mut current = line;
-    let mut at: usize = 0;
-    while at < input.len() {
-        let step = lines::advance(current, &input[at..]);
-        current = print_ended(step);
-        at += step.used;
-    }
-    current
+    let mut out = [0u8; MOST_TEXT];
+    let told = lines::tell_last(line, &mut out);
+    let n = told.length;
+    io::write_all(STDOUT_FILENO, &out[..n]);
+    told.line
 }
 
-// Reads once. A read that fails ends the input, as one that finds nothing does.
-fn read_some(line: Line) -> Read {
-    let mut buffer = io::large_buffer();
+// Reads once. A read that fails ends the input, as one that finds nothing does, and the line begun stays.
+fn read_some(line: Line) -> Read
+    ensures { λ r. ⌜ (r .more ≡ false → r .line ≡ line) ⌝ }
+{
+    let mut buffer = io::buffer();
     let got = libc::read(STDIN_FILENO, &mut buffer);
     if got <= 0 {
         return Read { more: false, line };
@@ -95,8 +78,5 @@ fn read_all() -> Line {
 }
 
 fn main() {
-    let last = read_all();
-    if lines::is_begun(last) {
-        print(lines::judge_line(last));
-    }
+    finish(read_all());
 }

@@ -8,7 +8,7 @@ use borrow.Author.Tests.{lt-ltb}
 use lib.Dec.{eqb}
 use lib.ListN.{length}
 use Rattle.lines.specs.Input.{NEWLINE, last, linesFrom, lines}
-use Rattle.lines.specs.Reading.{MOST, fresh, taken, finished, begun, atEnd, told}
+use Rattle.lines.specs.Reading.{MOST, fresh, taken, finished, begun, atEnd, toldAll}
 use Rattle.lines.specs.Judgement.{judgedLine, judged}
 use Rattle.lines.specs.declared.Line.{Line}
 use Rattle.lines.specs.declared.Judged.{Judged}
@@ -67,8 +67,8 @@ finished-lines a (b ∷ l) = by (eqb b NEWLINE) (finished-lines [] l) (finished-
 
 -- chunks are told of as if they came at once
 told-flatten : (limit : ℕ) (line : Line) (chunks : List (List ℕ))
-    → told limit line chunks ≡ map (judgedLine limit) (finished line (flatten chunks) ++ atEnd (begun line (flatten chunks)))
-unfolding told flatten finished begun
+    → toldAll limit line chunks ≡ map (judgedLine limit) (finished line (flatten chunks) ++ atEnd (begun line (flatten chunks)))
+unfolding toldAll flatten finished begun
 told-flatten limit line [] = refl
 told-flatten limit line (c ∷ chunks) =
     ap (λ (k : List Judged). map (judgedLine limit) (finished line c) ++ k) (told-flatten limit (begun line c) chunks)
@@ -85,7 +85,7 @@ map-judged limit (l ∷ ls) h = ap₂ (λ (j : Judged) (k : List Judged). j ∷ 
 
 -- however an input is cut into chunks, what is told are the judgements of its lines, in order
 pub told-lines : (limit : ℕ) (chunks : List (List ℕ)) → limit < MOST
-    → told limit fresh chunks ≡ map (judged limit) (lines (flatten chunks))
+    → toldAll limit fresh chunks ≡ map (judged limit) (lines (flatten chunks))
 unfolding lines
 told-lines limit chunks h =
     told-flatten limit fresh chunks

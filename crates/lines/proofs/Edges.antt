@@ -11,6 +11,7 @@ use Rattle.lines.specs.Hexadecimal.{isHex, allHex}
 use Rattle.lines.specs.Input.{NEWLINE, front, last, linesFrom, lines}
 use Rattle.lines.specs.Reading.{MOST}
 use Rattle.lines.specs.Judgement.{MAX-LINE, Sized, Long, Bad, unsized, sized, judgement, judged}
+use Rattle.lines.specs.Text.{digits, decimal, numeral, numbers, textOf, printed}
 use Rattle.lines.specs.declared.Judged.{Judged}
 
 -- ---- lines
@@ -76,13 +77,41 @@ pub figures :
 unfolding judgement sized sizeAnswer macSteps totalSteps
 figures = (refl, refl, refl, refl, refl, refl, refl, refl, refl, refl, refl)
 
+-- ---- bytes
+
+-- numbers of one digit and of more
+pub decimals :
+    (decimal 0 ≡ 0x30 ∷ []) × (decimal 9 ≡ 0x39 ∷ []) × (decimal 10 ≡ 0x31 ∷ 0x30 ∷ [])
+    × (decimal 16448 ≡ 0x31 ∷ 0x36 ∷ 0x34 ∷ 0x34 ∷ 0x38 ∷ [])
+unfolding decimal digits
+decimals = (refl, refl, refl, refl)
+
+-- a text of each kind
+pub texts :
+    (textOf (unsized Long) ≡ 0x6c ∷ 0x6f ∷ 0x6e ∷ 0x67 ∷ 0x0a ∷ [])
+    × (textOf (unsized Bad) ≡ 0x62 ∷ 0x61 ∷ 0x64 ∷ 0x0a ∷ [])
+    × (textOf (shown 63 3 0) ≡ 0x36 ∷ 0x33 ∷ 0x20 ∷ 0x33 ∷ 0x20 ∷ 0x30 ∷ 0x0a ∷ [])
+unfolding textOf numbers numeral decimal digits
+texts = (refl, refl, refl)
+
 -- the scope's example: 0101, 128 zeros, 130 zeros, an empty line
 abbrev pub zeros : ℕ → List ℕ
 zeros n = replicate n 0x30 ++ (NEWLINE ∷ [])
 
--- its whole output
-pub example :
-    map (judged MAX-LINE) (lines ((0x30 ∷ 0x31 ∷ 0x30 ∷ 0x31 ∷ NEWLINE ∷ []) ++ (zeros 128 ++ (zeros 130 ++ (NEWLINE ∷ [])))))
-    ≡ shown 2 3 0 ∷ shown 64 0 8 ∷ shown 65 4 0 ∷ shown 0 3 0 ∷ []
+abbrev pub exampleInput : List ℕ
+exampleInput = (0x30 ∷ 0x31 ∷ 0x30 ∷ 0x31 ∷ NEWLINE ∷ []) ++ (zeros 128 ++ (zeros 130 ++ (NEWLINE ∷ [])))
+
+-- its judgements
+pub example : map (judged MAX-LINE) (lines exampleInput) ≡ shown 2 3 0 ∷ shown 64 0 8 ∷ shown 65 4 0 ∷ shown 0 3 0 ∷ []
 unfolding lines linesFrom last judged allHex isHex judgement sized sizeAnswer macSteps totalSteps
 example = refl
+
+-- and its whole output, line by line: 2 3 0, 64 0 8, 65 4 0, 0 3 0
+pub exampleOutput :
+    printed (map (judged MAX-LINE) (lines exampleInput))
+    ≡ 0x32 ∷ 0x20 ∷ 0x33 ∷ 0x20 ∷ 0x30 ∷ 0x0a
+    ∷ 0x36 ∷ 0x34 ∷ 0x20 ∷ 0x30 ∷ 0x20 ∷ 0x38 ∷ 0x0a
+    ∷ 0x36 ∷ 0x35 ∷ 0x20 ∷ 0x34 ∷ 0x20 ∷ 0x30 ∷ 0x0a
+    ∷ 0x30 ∷ 0x20 ∷ 0x33 ∷ 0x20 ∷ 0x30 ∷ 0x0a ∷ []
+unfolding printed textOf numbers numeral decimal digits
+exampleOutput = rw example

@@ -1,4 +1,8 @@
 pub mod Hexadecimal
 pub mod Input
-pub mod Reading
 pub mod Judgement
+pub mod Promise
+pub mod Reading
+pub mod Run
+pub mod Telling
+pub mod Text

@@ -48,7 +48,15 @@ isBegun line = ltb 0 (line .count)
 unfoldable pub atEnd : Line → List Line
 atEnd line = cond (isBegun line) (line ∷ []) []
 
--- what is said of the lines of an input that comes in chunks, the first line begun before them
-unfoldable pub told : ℕ → Line → List (List ℕ) → List Judged
-told limit line [] = map (judgedLine limit) (atEnd line)
-told limit line (chunk ∷ chunks) = map (judgedLine limit) (finished line chunk) ++ told limit (begun line chunk) chunks
+-- what is said of the lines that end in a part of the input, the first one begun before it
+abbrev pub told : ℕ → Line → List ℕ → List Judged
+told limit line part = map (judgedLine limit) (finished line part)
+
+-- and at the end of the input
+abbrev pub toldLast : ℕ → Line → List Judged
+toldLast limit line = map (judgedLine limit) (atEnd line)
+
+-- what is said of the lines of an input that comes in chunks, and of its end
+unfoldable pub toldAll : ℕ → Line → List (List ℕ) → List Judged
+toldAll limit line [] = toldLast limit line
+toldAll limit line (chunk ∷ chunks) = told limit line chunk ++ toldAll limit (begun line chunk) chunks
