@@ -1,19 +1,38 @@
--- A key block's halves at the border: the keys of a half, their sizes, and a key laid over a span of its size. Assumes nothing.
-use mathlib.Core.Bool.{true}
+-- A key block's halves at the border: what a test says and what a refusal leaves, the keys of a half, their sizes, and keys
+-- laid over spans of their sizes. Assumes nothing.
+use mathlib.Core.Bool.{Bool, true, false, cond, not}
 use mathlib.Core.List.{List}
 use mathlib.Core.Path.{_≡_, sym, _∙_}
 use Prim.Native.Nat.{ℕ, _+_, _-_, _≤_}
 use native.Mathlib.Omega.{arith}
+use borrow.Author.Tests.{not-true, not-false}
 use lib.ListN.{length, drop, length-drop}
 use lib.Seq.{length-take-le}
+use Rattle.answers.specs.Answers.{WrongSize}
 use Rattle.words.specs.Lists.{put}
 use Rattle.words.proofs.Lists.{put-whole}
 use Rattle.record.specs.declared.Halved.{Halved}
 use Rattle.record.specs.declared.RecordKeysCbc.{RecordKeysCbc}
 use Rattle.record.specs.KeyBlock.{part, clientKeys, serverKeys, halvedBy}
 use Rattle.record.specs.Limits.{MAC-LEN, CBC-KEY-BLOCK-LEN}
-use Rattle.border.specs.Border.{KEY-SIZE, has}
+use Rattle.border.specs.Border.{KEY-SIZE, has, answerFor}
 use Rattle.border.proofs.Sizes.{is-long}
+
+-- what a test that failed, and one that held, say of the definition
+pub failed : {t d : Bool} → t ≡ d → not t ≡ true → d ≡ false
+failed {t = t} e n = sym e ∙ not-true t n
+
+pub passed : {t d : Bool} → t ≡ d → not t ≡ false → d ≡ true
+passed {t = t} e n = sym e ∙ not-false t n
+
+-- a test that failed is answer 9
+pub refused : {t : Bool} → t ≡ false → WrongSize ≡ answerFor t
+unfolding answerFor
+refused e = rw e
+
+-- and what was lent stays as found
+pub kept : {t : Bool} (x out : List ℕ) → t ≡ false → out ≡ cond t x out
+kept x out e = rw e
 
 -- n bytes from a on are n, where there are so many
 part-long : (a n : ℕ) (b : List ℕ) → a + n ≤ length b → length (part a (a + n) b) ≡ n
@@ -43,6 +62,10 @@ pub keys-of-half : {h : Halved} (keys : List ℕ → RecordKeysCbc) (b : List �
 unfolding halvedBy has
 keys-of-half keys b e q = rw (q, e)
 
--- a key laid over a span of its size is all there is
-pub laid-key : (key out : List ℕ) {n : ℕ} → length key ≡ n → length out ≡ n → put 0 key out ≡ key
-laid-key key out p q = put-whole key out (p ∙ sym q)
+-- keys h that are those keys, laid over spans of their sizes, are all there is
+module _ (h keys : RecordKeysCbc) (out : List ℕ) (e : h ≡ keys) (s : Sized keys) where
+  pub laid-mac : length out ≡ MAC-LEN → put 0 (h .«mac_key») out ≡ keys .«mac_key»
+  laid-mac n = rw e (put-whole (keys .«mac_key») out (s .0 ∙ sym n))
+
+  pub laid-enc : length out ≡ KEY-SIZE → put 0 (h .«enc_key») out ≡ keys .«enc_key»
+  laid-enc n = rw e (put-whole (keys .«enc_key») out (s .1 ∙ sym n))

@@ -1,29 +1,32 @@
 -- `border::noustrel_key_halves` meets its contract: 9 where a size is wrong, else the keys of `client_half` and `server_half`, each
 -- laid over a span of its size. Assumes nothing.
 use mathlib.Core.Bool.{true}
-use mathlib.Core.Path.{_≡_, sym, _∙_}
+use mathlib.Core.Path.{_≡_, _∙_}
 use borrow.Author.Needs.{needs}
-use borrow.Author.Tests.{not-true, not-false}
 use Rattle.record.specs.KeyBlock.{clientKeys, serverKeys}
 use Rattle.border.specs.Border.{answerFor, halvesSizes}
-use Rattle.border.proofs.Halves.{client-long, server-long, keys-of-half, laid-key}
+use Rattle.border.proofs.Halves.{failed, passed, refused, kept, client-long, server-long, keys-of-half, laid-mac, laid-enc}
 use Rattle.border.proofs.Sizes.{halves-long}
 use Rattle.border.proofs.noustrel_key_halves.Statement.{statement}
 use Rattle.border.proofs.noustrel_key_halves.Tie as tie
 
 returns : tie.Need-returns
-unfolding answerFor
 returns c =
-    let e = not-true (c .before .halves-sizes .result) (c .if1 .taken) in
-    let w = sym (c .before .halves-sizes .ensures) ∙ e in
-    record { result = rw w; client-mac = rw w; server-mac = rw w; client-enc = rw w; server-enc = rw w }
+    let w = failed (c .before .halves-sizes .ensures) (c .if1 .taken) in
+    record {
+      result = refused w;
+      client-mac = kept _ _ w;
+      server-mac = kept _ _ w;
+      client-enc = kept _ _ w;
+      server-enc = kept _ _ w;
+    }
 
 -- the sizes are right
 right : (c : tie.Else1) →
     let a = c .before .before .before .before .before .before .before .before .before .before .before .args in
     halvesSizes (a .key-block .now) (a .client-mac-key .now) (a .server-mac-key .now) (a .client-enc-key .now) (a .server-enc-key .now)
     ≡ true
-right c = sym (c .before .halves-sizes .ensures) ∙ not-false (c .before .halves-sizes .result) (c .if1 .left)
+right c = passed (c .before .halves-sizes .ensures) (c .if1 .left)
 
 returns-2 : tie.Need-returns-2
 unfolding answerFor
@@ -41,10 +44,10 @@ returns-2 c =
     let server-sizes = server-long _ (s .whole) in
     record {
       result = rw e;
-      client-mac = rw e (client .0 ∙ rw client-keys (laid-key _ _ (client-sizes .0) (s .client .0)));
-      server-mac = rw e (server .0 ∙ rw server-keys (laid-key _ _ (server-sizes .0) (s .server .0)));
-      client-enc = rw e (client .1 ∙ rw client-keys (laid-key _ _ (client-sizes .1) (s .client .1)));
-      server-enc = rw e (server .1 ∙ rw server-keys (laid-key _ _ (server-sizes .1) (s .server .1)));
+      client-mac = rw e (client .0 ∙ laid-mac _ _ _ client-keys client-sizes (s .client .0));
+      server-mac = rw e (server .0 ∙ laid-mac _ _ _ server-keys server-sizes (s .server .0));
+      client-enc = rw e (client .1 ∙ laid-enc _ _ _ client-keys client-sizes (s .client .1));
+      server-enc = rw e (server .1 ∙ laid-enc _ _ _ server-keys server-sizes (s .server .1));
     }
 
 pub noustrel-key-halves-spec : {M : Type 1} → statement M
