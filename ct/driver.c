@@ -230,15 +230,17 @@ static void verifications(size_t len)
 
 static void key_schedule(size_t len)
 {
-    uint8_t pre[48], master[48], randoms[64];
+    uint8_t pre[48], master[48], randoms[64], block[128], keys[96];
     fill(pre, 48);
     fill(randoms, 64);
     secret(pre, 48);
     must(noustrel_master_secret(pre, 48, randoms, 32, randoms + 32, 32, master, 48) == 0, "a secret was refused");
     must(noustrel_key_block(master, 48, randoms, 32, randoms + 32, 32, out, len) == 0, "a key block was refused");
     must(noustrel_finished(master, 48, 0, randoms, 32, out, 12) == 0, "a Finished was refused");
+    must(noustrel_key_block(master, 48, randoms, 32, randoms + 32, 32, block, 128) == 0, "a key block was refused");
+    must(noustrel_key_halves(block, 128, keys, 32, keys + 32, 32, keys + 64, 16, keys + 80, 16) == 0, "a key block was not cut");
     plain(out, len + 12);
-    runs += 3;
+    runs += 5;
 }
 
 /* ---- openings whose instructions are counted; the padding's length is random */

@@ -96,24 +96,19 @@ static void show(const uint8_t *at, size_t len)
 
 /* the half of a key block that a side seals with */
 typedef struct {
-    const uint8_t *mac_key, *enc_key;
+    uint8_t mac_key[32], enc_key[16];
 } half;
 
 static half half_of(size_t side, bytes block)
 {
-    half h = {NULL, NULL};
-    if (block.len != 128)
+    half client, server;
+    if (noustrel_key_halves(block.at, block.len, client.mac_key, 32, server.mac_key, 32, client.enc_key, 16, server.enc_key, 16))
         wrong();
-    if (strcmp(fields[side], "c") == 0) {
-        h.mac_key = block.at;
-        h.enc_key = block.at + 64;
-    } else if (strcmp(fields[side], "s") == 0) {
-        h.mac_key = block.at + 32;
-        h.enc_key = block.at + 80;
-    } else {
+    if (strcmp(fields[side], "c") == 0)
+        return client;
+    if (strcmp(fields[side], "s") != 0)
         wrong();
-    }
-    return h;
+    return server;
 }
 
 /* an output of so many bytes, filled with (7 i + 3) mod 256 */
@@ -131,7 +126,6 @@ static bytes output(size_t n)
 /* fields from `at` on: SIDE KEYBLOCK NUMBER TYPE VERSION */
 typedef struct {
     half keys;
-    bytes block;
     uint64_t number;
     uint8_t type;
     uint16_t version;
@@ -143,8 +137,7 @@ static parts parts_from(size_t at)
     bytes type, version;
     if (at + 5 > count_of_fields)
         wrong();
-    p.block = hex(at + 1);
-    p.keys = half_of(at, p.block);
+    p.keys = half_of(at, hex(at + 1));
     p.number = number(at + 2);
     type = hex(at + 3);
     version = hex(at + 4);

@@ -56,6 +56,7 @@ static void derive_keys(void)
 {
     uint8_t pre_master[NOUSTREL_MASTER_SECRET_LEN], client[NOUSTREL_RANDOM_LEN], server[NOUSTREL_RANDOM_LEN];
     uint8_t master[NOUSTREL_MASTER_SECRET_LEN], block[NOUSTREL_CBC_KEY_BLOCK_LEN];
+    uint8_t server_mac_key[NOUSTREL_MAC_KEY_LEN], server_enc_key[NOUSTREL_ENC_KEY_LEN]; /* for the other direction */
     uint32_t answer;
 
     /* in a tunnel these come from the handshake */
@@ -67,8 +68,9 @@ static void derive_keys(void)
     expect(answer == NOUSTREL_DONE, "a master secret is derived");
     answer = noustrel_key_block(master, sizeof master, client, sizeof client, server, sizeof server, block, sizeof block);
     expect(answer == NOUSTREL_DONE, "a key block is derived");
-    memcpy(mac_key, block, sizeof mac_key);
-    memcpy(enc_key, block + 64, sizeof enc_key);
+    answer = noustrel_key_halves(block, sizeof block, mac_key, sizeof mac_key, server_mac_key, sizeof server_mac_key,
+                                 enc_key, sizeof enc_key, server_enc_key, sizeof server_enc_key);
+    expect(answer == NOUSTREL_DONE, "both sides' keys are taken from it");
     printf("A master secret of %zu bytes gives a key block of %zu. The client's keys are taken from it.\n",
            sizeof master, sizeof block);
 }

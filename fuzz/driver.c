@@ -15,8 +15,10 @@
 #include "fuzz.h"
 
 static const char *const names[FUNCTIONS] = {"seal", "open", "sm3", "hmac_sm3", "sm4_encrypt_block", "sm4_decrypt_block",
-                                             "master_secret", "key_block", "finished", "sm3_start", "sm3_update", "sm3_finish"};
-static const char *const possible[FUNCTIONS] = {"0129", "0234569", "09", "09", "09", "09", "09", "09", "09", "0", "07", "079"};
+                                             "master_secret", "key_block", "key_halves", "finished", "sm3_start", "sm3_update",
+                                             "sm3_finish"};
+static const char *const possible[FUNCTIONS] = {"0129", "0234569", "09", "09", "09", "09", "09", "09", "09", "09", "0", "07",
+                                                "079"};
 static uint64_t counts[FUNCTIONS][10], calls, the_seed, the_case, state;
 
 uint64_t random_word(void)

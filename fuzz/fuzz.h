@@ -40,7 +40,8 @@ int nearest_span(const void *at, long *distance);
 extern int side;                     /* where spans lie: 0 behind the lower guard, 1 before the upper one, -1 at random */
 
 /* ---- the model (model.c): answers as the library must, over OpenSSL; 'model_X' is noustrel_X */
-enum wrong { RIGHT, TEXT_LIMIT, BODY_LIMIT, SCANS_16, SHORTEST_PADDING, HEADER_LENGTH, STALE_BUFFER, FILL_64, ROLE, COUNT };
+enum wrong { RIGHT, TEXT_LIMIT, BODY_LIMIT, SCANS_16, SHORTEST_PADDING, HEADER_LENGTH, STALE_BUFFER, FILL_64, ROLE, COUNT, BY_SIDE,
+             CUT_ON_9 };
 extern enum wrong wrong;             /* an error that looks right, for showing that the driver catches it */
 
 void model_make(void);
@@ -63,6 +64,9 @@ uint32_t model_master_secret(const uint8_t *secret, size_t secret_len, const uin
                              const uint8_t *server, size_t server_len, uint8_t *out, size_t out_len);
 uint32_t model_key_block(const uint8_t *secret, size_t secret_len, const uint8_t *client, size_t client_len,
                          const uint8_t *server, size_t server_len, uint8_t *out, size_t out_len);
+uint32_t model_key_halves(const uint8_t *block, size_t block_len, uint8_t *client_mac, size_t client_mac_len, uint8_t *server_mac,
+                          size_t server_mac_len, uint8_t *client_enc, size_t client_enc_len, uint8_t *server_enc,
+                          size_t server_enc_len);
 uint32_t model_finished(const uint8_t *secret, size_t secret_len, uint32_t role, const uint8_t *hash, size_t hash_len,
                         uint8_t *out, size_t out_len);
 void model_sm3_start(noustrel_sm3_state *h);
@@ -70,7 +74,8 @@ uint32_t model_sm3_update(noustrel_sm3_state *h, const uint8_t *data, size_t dat
 uint32_t model_sm3_finish(const noustrel_sm3_state *h, uint8_t *digest, size_t digest_len);
 
 /* ---- the cases (records.c, hashes.c): each makes one or more calls and compares them with the model's */
-enum function { SEAL, OPEN, SM3, HMAC_SM3, ENCRYPT, DECRYPT, MASTER, KEY_BLOCK, FINISHED, START, UPDATE, FINISH, FUNCTIONS };
+enum function { SEAL, OPEN, SM3, HMAC_SM3, ENCRYPT, DECRYPT, MASTER, KEY_BLOCK, KEY_HALVES, FINISHED, START, UPDATE, FINISH,
+                FUNCTIONS };
 void judge(enum function f, uint32_t answer, uint32_t expected);
 size_t size_near(size_t right);      /* mostly the right size, else another */
 void seal_case(void);

@@ -68,7 +68,22 @@ static void finished_case(int odd)
     judge(FINISHED, noustrel_finished(secret->at, secret->len, role, hash->at, hash->len, out->at, out->len), expected);
 }
 
-/* master secret, key block, Finished */
+/* one wrong size at a time, or any of them */
+static void halves_case(int odd)
+{
+    static const size_t right[5] = {128, 32, 32, 16, 16};
+    size_t alone = below(10), i;
+    struct span *s[5];
+    uint32_t expected;
+    for (i = 0; i < 5; i++)
+        s[i] = (i == 0 ? input : output)(odd && (alone == i || alone >= 5) ? size_near(right[i]) : right[i]);
+    expected = model_key_halves(s[0]->content, s[0]->len, s[1]->want, s[1]->len, s[2]->want, s[2]->len, s[3]->want, s[3]->len,
+                                s[4]->want, s[4]->len);
+    judge(KEY_HALVES, noustrel_key_halves(s[0]->at, s[0]->len, s[1]->at, s[1]->len, s[2]->at, s[2]->len, s[3]->at, s[3]->len,
+                                          s[4]->at, s[4]->len), expected);
+}
+
+/* master secret, key block and its halves, Finished */
 void key_case(void)
 {
     int odd = one_in(6), master = one_in(2);
@@ -76,8 +91,8 @@ void key_case(void)
     uint32_t expected, answer;
     size_t len;
     spans_begin();
-    if (one_in(3)) {
-        finished_case(odd);
+    if (one_in(2)) {
+        (one_in(2) ? finished_case : halves_case)(odd);
         return;
     }
     len = one_in(4) ? 128 : one_in(8) ? between(1020, 1030) : one_in(8) ? below(3000) : below(200);

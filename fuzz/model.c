@@ -192,6 +192,21 @@ uint32_t model_key_block(const uint8_t *secret, size_t secret_len, const uint8_t
     return 0;
 }
 
+uint32_t model_key_halves(const uint8_t *block, size_t block_len, uint8_t *client_mac, size_t client_mac_len, uint8_t *server_mac,
+                          size_t server_mac_len, uint8_t *client_enc, size_t client_enc_len, uint8_t *server_enc,
+                          size_t server_enc_len)
+{
+    if (wrong == CUT_ON_9 && block_len >= 32 && client_mac_len == 32)
+        memcpy(client_mac, block, 32);
+    if (block_len != 128 || client_mac_len != 32 || server_mac_len != 32 || client_enc_len != 16 || server_enc_len != 16)
+        return 9;
+    memcpy(client_mac, block, 32);
+    memcpy(server_mac, block + (wrong == BY_SIDE ? 48 : 32), 32);
+    memcpy(client_enc, block + (wrong == BY_SIDE ? 32 : 64), 16);
+    memcpy(server_enc, block + 80, 16);
+    return 0;
+}
+
 uint32_t model_finished(const uint8_t *secret, size_t secret_len, uint32_t role, const uint8_t *hash, size_t hash_len,
                         uint8_t *out, size_t out_len)
 {

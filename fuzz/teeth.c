@@ -100,6 +100,8 @@ static const struct tooth all[] = {
     {"a fill of 64 taken", noustrel_seal, FILL_64, -1, ANSWER},
     {"an even role taken for the client", noustrel_seal, ROLE, -1, CONTENTS},
     {"one step too many at bodies of whole 64 bytes", noustrel_seal, COUNT, -1, CONTENTS},
+    {"the key block cut by side", noustrel_seal, BY_SIDE, -1, CONTENTS},
+    {"a key cut with a refusal", noustrel_seal, CUT_ON_9, -1, CONTENTS},
 };
 
 static int caught(const struct tooth *t)

@@ -111,12 +111,20 @@ uint32_t noustrel_master_secret(const uint8_t *pre_master, size_t pre_master_len
                                 uint8_t *out, size_t out_len);
 
 /* The key block, all of out, 0 to 1,024 bytes. master_secret 48 bytes, randoms 32. Answers 0 and 9; 9 leaves out as
- * found. Of the 128 bytes for SM4-CBC, 0..32 are the client's MAC key, 32..64 the server's, 64..80 the client's cipher
- * key, 80..96 the server's; 96..128 are not used. Each side seals with its own keys and opens with the other's. */
+ * found. For SM4-CBC out has 128, which noustrel_key_halves cuts. */
 uint32_t noustrel_key_block(const uint8_t *master_secret, size_t master_secret_len,
                             const uint8_t *client_random, size_t client_random_len,
                             const uint8_t *server_random, size_t server_random_len,
                             uint8_t *out, size_t out_len);
+
+/* The keys of both sides out of a key block: bytes 0..32 are the client's MAC key, 32..64 the server's, 64..80 the client's
+ * cipher key, 80..96 the server's; 96..128 are not used. Each side seals with its own keys and opens with the other's.
+ * key_block 128 bytes, MAC keys 32, cipher keys 16. Answers 0 and 9; 9, for any wrong length, leaves all four as found. */
+uint32_t noustrel_key_halves(const uint8_t *key_block, size_t key_block_len,
+                             uint8_t *client_mac_key, size_t client_mac_key_len,
+                             uint8_t *server_mac_key, size_t server_mac_key_len,
+                             uint8_t *client_enc_key, size_t client_enc_key_len,
+                             uint8_t *server_enc_key, size_t server_enc_key_len);
 
 /* The verify data of a Finished message: role 0 is the client, any other number the server. master_secret 48 bytes,
  * transcript_hash 32, out 12. Answers 0 and 9; 9 leaves out as found. */

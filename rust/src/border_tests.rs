@@ -1,7 +1,7 @@
 //! What the safe functions do not show: states out of range, outputs of wrong size, and the numbers
 //! reported with a refusal.
 
-use crate::{Header, Keys, ffi, seal};
+use crate::{Header, Keys, ffi, key_halves, seal};
 
 const HEADER: Header = Header {
     number: 5,
@@ -35,7 +35,8 @@ fn opened(keys: Keys<'_>, record: &[u8], room: usize) -> (u32, usize, usize) {
 #[test]
 fn numbers_are_reported_with_every_answer() {
     let block: Vec<u8> = (0..128).collect();
-    let keys = Keys::client(&block).unwrap();
+    let halves = key_halves(&block).unwrap();
+    let keys = halves.client();
     let mut record = seal(keys, HEADER, &[7; 16], &[1; 40]).unwrap();
     assert_eq!(opened(keys, &record, 80), (0, 40, 11));
     assert_eq!(opened(keys, &record, 79), (2, 0, 0));
@@ -125,4 +126,21 @@ fn outputs_of_wrong_size_are_answer_9() {
         assert_eq!(answers, [9; 6]);
     }
     assert_eq!(out, [6; 64], "as found");
+}
+
+#[test]
+fn a_key_of_wrong_size_leaves_all_four_as_found() {
+    let block = [1; 129];
+    for at in 0..5 {
+        for off in [-1_isize, 1] {
+            let mut sizes = [128_usize, 32, 32, 16, 16];
+            sizes[at] = sizes[at].wrapping_add_signed(off);
+            let mut keys = [[6; 33]; 4];
+            let [cm, sm, ce, se] = keys.each_mut().map(|key| key.as_mut_ptr());
+            let [n, a, b, c, d] = sizes;
+            let answer =
+                unsafe { ffi::noustrel_key_halves(block.as_ptr(), n, cm, a, sm, b, ce, c, se, d) };
+            assert_eq!((answer, keys), (9, [[6; 33]; 4]), "{sizes:?}");
+        }
+    }
 }

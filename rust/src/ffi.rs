@@ -96,6 +96,18 @@ unsafe extern "C" {
         out: *mut u8,
         out_len: usize,
     ) -> u32;
+    pub fn noustrel_key_halves(
+        key_block: *const u8,
+        key_block_len: usize,
+        client_mac_key: *mut u8,
+        client_mac_key_len: usize,
+        server_mac_key: *mut u8,
+        server_mac_key_len: usize,
+        client_enc_key: *mut u8,
+        client_enc_key_len: usize,
+        server_enc_key: *mut u8,
+        server_enc_key_len: usize,
+    ) -> u32;
     pub fn noustrel_finished(
         master_secret: *const u8,
         master_secret_len: usize,

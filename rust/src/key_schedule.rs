@@ -1,6 +1,7 @@
 //! The key schedule.
 
-use crate::{Error, FINISHED_VERIFY_DATA_LEN, MASTER_SECRET_LEN, answered, ffi};
+use crate::{ENC_KEY_LEN, FINISHED_VERIFY_DATA_LEN, MAC_KEY_LEN, MASTER_SECRET_LEN};
+use crate::{Error, Keys, answered, ffi};
 
 /// The master secret, from a pre-master secret of 48 bytes and two randoms of 32.
 ///
@@ -28,7 +29,7 @@ pub fn master_secret(
 }
 
 /// The key block, all of `out`: at most [`MAX_KEY_BLOCK`](crate::MAX_KEY_BLOCK) bytes, and for
-/// [`Keys`](crate::Keys) 128. The master secret has 48 bytes, each random 32.
+/// [`key_halves`] 128. The master secret has 48 bytes, each random 32.
 ///
 /// # Errors
 /// [`Error::WrongSize`]; `out` stays as found.
@@ -51,6 +52,61 @@ pub fn key_block(
         )
     };
     answered(answer)
+}
+
+/// The keys of both sides, copied out of a key block. Nothing wipes them.
+#[derive(Clone)]
+pub struct KeyHalves {
+    client_mac_key: [u8; MAC_KEY_LEN],
+    server_mac_key: [u8; MAC_KEY_LEN],
+    client_enc_key: [u8; ENC_KEY_LEN],
+    server_enc_key: [u8; ENC_KEY_LEN],
+}
+
+impl KeyHalves {
+    /// The keys that the client seals with.
+    pub fn client(&self) -> Keys<'_> {
+        Keys {
+            mac_key: &self.client_mac_key,
+            enc_key: &self.client_enc_key,
+        }
+    }
+
+    /// The keys that the server seals with.
+    pub fn server(&self) -> Keys<'_> {
+        Keys {
+            mac_key: &self.server_mac_key,
+            enc_key: &self.server_enc_key,
+        }
+    }
+}
+
+/// The keys of both sides out of a key block of [`CBC_KEY_BLOCK_LEN`](crate::CBC_KEY_BLOCK_LEN) bytes.
+///
+/// # Errors
+/// [`Error::WrongSize`] if it has another length.
+pub fn key_halves(key_block: &[u8]) -> Result<KeyHalves, Error> {
+    let mut halves = KeyHalves {
+        client_mac_key: [0; MAC_KEY_LEN],
+        server_mac_key: [0; MAC_KEY_LEN],
+        client_enc_key: [0; ENC_KEY_LEN],
+        server_enc_key: [0; ENC_KEY_LEN],
+    };
+    let answer = unsafe {
+        ffi::noustrel_key_halves(
+            key_block.as_ptr(),
+            key_block.len(),
+            halves.client_mac_key.as_mut_ptr(),
+            halves.client_mac_key.len(),
+            halves.server_mac_key.as_mut_ptr(),
+            halves.server_mac_key.len(),
+            halves.client_enc_key.as_mut_ptr(),
+            halves.client_enc_key.len(),
+            halves.server_enc_key.as_mut_ptr(),
+            halves.server_enc_key.len(),
+        )
+    };
+    answered(answer).map(|()| halves)
 }
 
 /// Whose Finished message it is.

@@ -8,10 +8,10 @@
 //!
 //! What the library asks of pointers (not null, spans apart, nobody else at work on them) holds by
 //! Rust's own rules: every span is a slice, and one that is written is borrowed for that alone. Keys
-//! are borrowed, not copied. Nothing wipes the stack.
+//! are borrowed; only [`KeyHalves`] holds copies. Nothing wipes it, or the stack.
 //!
 //! ```
-//! use noustrel::{Error, Header, Keys};
+//! use noustrel::{Error, Header};
 //!
 //! # fn fresh_iv() -> [u8; 16] { *b"not for real use" }
 //! # fn main() -> Result<(), Error> {
@@ -20,7 +20,8 @@
 //! let master = noustrel::master_secret(&pre_master, &client_random, &server_random)?;
 //! let mut key_block = [0; noustrel::CBC_KEY_BLOCK_LEN];
 //! noustrel::key_block(&master, &client_random, &server_random, &mut key_block)?;
-//! let client = Keys::client(&key_block)?;
+//! let halves = noustrel::key_halves(&key_block)?;
+//! let client = halves.client();
 //!
 //! // the client seals record number 0, the server opens it
 //! let header = Header { number: 0, content_type: 23, version: noustrel::TLCP_RECORD_VERSION };
@@ -56,7 +57,7 @@ mod sm4;
 use std::fmt;
 
 pub use hash::{Sm3, hmac_sm3, sm3};
-pub use key_schedule::{Role, finished, key_block, master_secret};
+pub use key_schedule::{KeyHalves, Role, finished, key_block, key_halves, master_secret};
 pub use record::{Header, Keys, Opened, open, open_into, seal, seal_into};
 pub use sm4::{sm4_decrypt_block, sm4_encrypt_block};
 

@@ -1,43 +1,14 @@
 //! Records: sealing and opening.
 
-use crate::{CBC_KEY_BLOCK_LEN, ENC_KEY_LEN, Error, MAC_KEY_LEN, MAX_BODY, MAX_PLAINTEXT};
-use crate::{answered, body_len, ffi, sealed_len};
+use crate::{Error, MAX_BODY, MAX_PLAINTEXT, answered, body_len, ffi, sealed_len};
 
 /// The keys of one direction, borrowed.
 #[derive(Clone, Copy)]
 pub struct Keys<'a> {
-    /// [`MAC_KEY_LEN`] bytes.
+    /// [`MAC_KEY_LEN`](crate::MAC_KEY_LEN) bytes.
     pub mac_key: &'a [u8],
-    /// [`ENC_KEY_LEN`] bytes.
+    /// [`ENC_KEY_LEN`](crate::ENC_KEY_LEN) bytes.
     pub enc_key: &'a [u8],
-}
-
-impl<'a> Keys<'a> {
-    /// The keys that the client seals with, out of a key block of [`CBC_KEY_BLOCK_LEN`] bytes.
-    ///
-    /// # Errors
-    /// [`Error::WrongSize`] if it has another length.
-    pub fn client(key_block: &'a [u8]) -> Result<Self, Error> {
-        Self::at(key_block, 0, 64)
-    }
-
-    /// The keys that the server seals with, out of a key block of [`CBC_KEY_BLOCK_LEN`] bytes.
-    ///
-    /// # Errors
-    /// [`Error::WrongSize`] if it has another length.
-    pub fn server(key_block: &'a [u8]) -> Result<Self, Error> {
-        Self::at(key_block, 32, 80)
-    }
-
-    fn at(key_block: &'a [u8], mac: usize, enc: usize) -> Result<Self, Error> {
-        if key_block.len() != CBC_KEY_BLOCK_LEN {
-            return Err(Error::WrongSize);
-        }
-        Ok(Self {
-            mac_key: &key_block[mac..mac + MAC_KEY_LEN],
-            enc_key: &key_block[enc..enc + ENC_KEY_LEN],
-        })
-    }
 }
 
 /// What the MAC covers beside the text and its length. Any values are taken.

@@ -138,7 +138,8 @@ fn the_key_schedule_asks_for_its_sizes() {
 #[test]
 fn a_key_block_has_two_halves() {
     let block = bytes(7, 3, 128);
-    let (client, server) = (Keys::client(&block).unwrap(), Keys::server(&block).unwrap());
+    let halves = key_halves(&block).unwrap();
+    let (client, server) = (halves.client(), halves.server());
     assert_eq!(
         (client.mac_key, client.enc_key),
         (&block[..32], &block[64..80])
@@ -149,8 +150,7 @@ fn a_key_block_has_two_halves() {
     );
     for n in [0, 127, 129] {
         let block = bytes(7, 3, n);
-        assert_eq!(Keys::client(&block).err(), Some(Error::WrongSize));
-        assert_eq!(Keys::server(&block).err(), Some(Error::WrongSize));
+        assert_eq!(key_halves(&block).err(), Some(Error::WrongSize));
     }
 }
 
@@ -158,7 +158,8 @@ fn a_key_block_has_two_halves() {
 fn a_sealed_record_is_that_of_the_rust() {
     let (block, text) = (bytes(7, 3, 128), bytes(7, 3, 15));
     let mut out = [0xee; 80];
-    let keys = Keys::server(&block).unwrap();
+    let halves = key_halves(&block).unwrap();
+    let keys = halves.server();
     assert_eq!(seal_into(keys, HEADER, &IV, &text, &mut out), Ok(64));
     let expected = "ab982e2fda8351d9c4c681eb5aff85958defed823897dfa2\
                     88a019469f07949d43ff07fef82ea277118cb1f9fa69b6d1";
@@ -169,7 +170,8 @@ fn a_sealed_record_is_that_of_the_rust() {
 #[test]
 fn what_is_sealed_is_opened() {
     let block = bytes(7, 3, 128);
-    let keys = Keys::client(&block).unwrap();
+    let halves = key_halves(&block).unwrap();
+    let keys = halves.client();
     let header = Header {
         version: 0x0203,
         ..HEADER
@@ -189,7 +191,8 @@ fn what_is_sealed_is_opened() {
 #[test]
 fn every_lawful_padding_is_opened_in_full() {
     let block = bytes(7, 3, 128);
-    let keys = Keys::client(&block).unwrap();
+    let halves = key_halves(&block).unwrap();
+    let keys = halves.client();
     for n in [0, 1, 15, 16, 20, 300] {
         let text = bytes(13, 1, n);
         for padding in paddings(n) {
@@ -212,7 +215,8 @@ fn every_lawful_padding_is_opened_in_full() {
 #[test]
 fn the_count_is_given_by_the_length() {
     let block = bytes(7, 3, 128);
-    let keys = Keys::client(&block).unwrap();
+    let halves = key_halves(&block).unwrap();
+    let keys = halves.client();
     for (body, count) in [(48, 8), (80, 11), (288, 27), (16432, 1288)] {
         let record = seal(keys, HEADER, &IV, &bytes(13, 1, body - 48)).unwrap();
         let opened = open_into(keys, HEADER, &record, &mut vec![0; body]).unwrap();
@@ -223,7 +227,8 @@ fn the_count_is_given_by_the_length() {
 #[test]
 fn wrong_padding_and_a_wrong_mac_are_refused_alike() {
     let block = bytes(7, 3, 128);
-    let keys = Keys::client(&block).unwrap();
+    let halves = key_halves(&block).unwrap();
+    let keys = halves.client();
     let text = b"the last part counts";
     let mut padding = [27; 28];
     padding[3] = 26;
@@ -258,14 +263,17 @@ fn wrong_padding_and_a_wrong_mac_are_refused_alike() {
     ] {
         assert_eq!(open(keys, header, &record), Err(Error::BadRecord));
     }
-    let other = Keys::server(&block).unwrap();
-    assert_eq!(open(other, HEADER, &record), Err(Error::BadRecord));
+    assert_eq!(
+        open(halves.server(), HEADER, &record),
+        Err(Error::BadRecord)
+    );
 }
 
 #[test]
 fn sealing_refuses_by_number() {
     let block = bytes(7, 3, 128);
-    let keys = Keys::client(&block).unwrap();
+    let halves = key_halves(&block).unwrap();
+    let keys = halves.client();
     let long = vec![1; MAX_PLAINTEXT + 1];
     let mut out = vec![0xee; MAX_RECORD];
     let mut sealing = |keys, iv: &[u8], text: &[u8], room: usize| {
@@ -288,7 +296,8 @@ fn sealing_refuses_by_number() {
 #[test]
 fn opening_refuses_by_number() {
     let block = bytes(7, 3, 128);
-    let keys = Keys::client(&block).unwrap();
+    let halves = key_halves(&block).unwrap();
+    let keys = halves.client();
     let bytes = vec![1; MAX_RECORD + 16];
     let mut out = vec![0xee; MAX_BODY + 16];
     let mut opening = |keys, record: usize, room: usize| {

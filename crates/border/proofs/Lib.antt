@@ -1,3 +1,4 @@
 mod Blocks
+mod Halves
 pub mod OneOutcome
 mod Sizes

@@ -3,8 +3,8 @@ use mathlib.Core.List.{List}
 use mathlib.Core.Path.{_≡_, sym, _∙_}
 use Prim.Native.Nat.{ℕ}
 use Rattle.sm3.specs.declared.Sm3.{Sm3}
-use Rattle.border.specs.Promise.{Hashed, Maced, SealedFor, OpenedFor, Enciphered, Deciphered, MasterSecretFor, KeyBlockFor, FinishedFor}
-use Rattle.border.specs.Promise.{StartedFor, TakenFor, DigestedFor}
+use Rattle.border.specs.Promise.{Hashed, Maced, SealedFor, OpenedFor, EncipheredFor, DecipheredFor, MasterSecretFor, KeyBlockFor, FinishedFor}
+use Rattle.border.specs.Promise.{KeyHalvesFor, StartedFor, TakenFor, DigestedFor}
 
 -- `noustrel_sm3`
 pub Hashed-one-outcome : {message out : List ℕ} {a b : ℕ} {x y : List ℕ}
@@ -30,14 +30,14 @@ OpenedFor-one-outcome p q =
     (p .result ∙ sym (q .result), p .output ∙ sym (q .output), p .reported ∙ sym (q .reported), p .counted ∙ sym (q .counted))
 
 -- `noustrel_sm4_encrypt_block`
-pub Enciphered-one-outcome : {key block out : List ℕ} {a b : ℕ} {x y : List ℕ}
-    → Enciphered key block out a x → Enciphered key block out b y → (a ≡ b) × (x ≡ y)
-Enciphered-one-outcome p q = (p .result ∙ sym (q .result), p .output ∙ sym (q .output))
+pub EncipheredFor-one-outcome : {key block out : List ℕ} {a b : ℕ} {x y : List ℕ}
+    → EncipheredFor key block out a x → EncipheredFor key block out b y → (a ≡ b) × (x ≡ y)
+EncipheredFor-one-outcome p q = (p .result ∙ sym (q .result), p .output ∙ sym (q .output))
 
 -- `noustrel_sm4_decrypt_block`
-pub Deciphered-one-outcome : {key block out : List ℕ} {a b : ℕ} {x y : List ℕ}
-    → Deciphered key block out a x → Deciphered key block out b y → (a ≡ b) × (x ≡ y)
-Deciphered-one-outcome p q = (p .result ∙ sym (q .result), p .output ∙ sym (q .output))
+pub DecipheredFor-one-outcome : {key block out : List ℕ} {a b : ℕ} {x y : List ℕ}
+    → DecipheredFor key block out a x → DecipheredFor key block out b y → (a ≡ b) × (x ≡ y)
+DecipheredFor-one-outcome p q = (p .result ∙ sym (q .result), p .output ∙ sym (q .output))
 
 -- `noustrel_master_secret`
 pub MasterSecretFor-one-outcome : {preMaster client server out : List ℕ} {a b : ℕ} {x y : List ℕ}
@@ -48,6 +48,18 @@ MasterSecretFor-one-outcome p q = (p .result ∙ sym (q .result), p .output ∙ 
 pub KeyBlockFor-one-outcome : {master client server out : List ℕ} {a b : ℕ} {x y : List ℕ}
     → KeyBlockFor master client server out a x → KeyBlockFor master client server out b y → (a ≡ b) × (x ≡ y)
 KeyBlockFor-one-outcome p q = (p .result ∙ sym (q .result), p .output ∙ sym (q .output))
+
+-- `noustrel_key_halves`
+pub KeyHalvesFor-one-outcome : {block cm sm ce se : List ℕ} {a b : ℕ} {w x y z w′ x′ y′ z′ : List ℕ}
+    → KeyHalvesFor block cm sm ce se a w x y z → KeyHalvesFor block cm sm ce se b w′ x′ y′ z′
+    → (a ≡ b) × (w ≡ w′) × (x ≡ x′) × (y ≡ y′) × (z ≡ z′)
+KeyHalvesFor-one-outcome p q = (
+  p .result ∙ sym (q .result),
+  p .client-mac ∙ sym (q .client-mac),
+  p .server-mac ∙ sym (q .server-mac),
+  p .client-enc ∙ sym (q .client-enc),
+  p .server-enc ∙ sym (q .server-enc),
+)
 
 -- `noustrel_finished`
 pub FinishedFor-one-outcome : {master : List ℕ} {role : ℕ} {transcript out : List ℕ} {a b : ℕ} {x y : List ℕ}

@@ -1,10 +1,13 @@
-// The C-callable functions: numbers and byte slices, a slice as a pointer and a length. A cipher key, record MAC key, IV, block,
-// digest or MAC of another size than its own is answer 9, before all else, and what was lent stays as found; reported numbers
-// are written on every call, 0 with a refusal (but T with answer 6).
+// The C-callable functions: numbers and byte slices, a slice as a pointer and a length. A cipher key, record MAC key, key
+// block, IV, block, digest or MAC of another size than its own is answer 9, before all else, and what was lent stays as found;
+// reported numbers are written on every call, 0 with a refusal (but T with answer 6).
 ghost use mathlib.Core.Bool.{_&&_};
 ghost use mathlib.Core.Path.{_≡_};
 ghost use lib.ListN.{length};
+ghost use Rattle.words.specs.Lists.{put};
+ghost use Rattle.record.specs.Limits.{MAC-LEN, IV-LEN};
 ghost use Rattle.border.specs.Border.{
+  KEY-SIZE,
   has,
   answerFor,
   sized,
@@ -12,6 +15,7 @@ ghost use Rattle.border.specs.Border.{
   keySizes,
   keysFrom,
   blockSizes,
+  halvesSizes,
   roleOf,
 };
 ghost use Rattle.border.specs.Promise.{
@@ -19,10 +23,11 @@ ghost use Rattle.border.specs.Promise.{
   Maced,
   SealedFor,
   OpenedFor,
-  Enciphered,
-  Deciphered,
+  EncipheredFor,
+  DecipheredFor,
   MasterSecretFor,
   KeyBlockFor,
+  KeyHalvesFor,
   FinishedFor,
   StartedFor,
   TakenFor,
@@ -97,14 +102,14 @@ fn key_sizes(mac_key: &[u8], enc_key: &[u8]) -> bool
 // Whether they and the IV have their sizes.
 fn seal_sizes(mac_key: &[u8], enc_key: &[u8], iv: &[u8]) -> bool
     ensures { λ r.
-        ⌜ r ≡ (keySizes (now («mac_key» .entry)) (now («enc_key» .entry)) && has 16 (now (iv .entry))) ⌝ }
+        ⌜ r ≡ (keySizes (now («mac_key» .entry)) (now («enc_key» .entry)) && has IV-LEN (now (iv .entry))) ⌝ }
 {
     key_sizes(mac_key, enc_key) && iv.len() == record::IV_LEN
 }
 
 // The keys of a record, as arrays.
 fn keys_from(mac_key: &[u8], enc_key: &[u8]) -> RecordKeysCbc
-    requires { ⌜ (length (now «mac_key») ≡ 32) × (length (now «enc_key») ≡ 16) ⌝ }
+    requires { ⌜ (length (now «mac_key») ≡ MAC-LEN) × (length (now «enc_key») ≡ KEY-SIZE) ⌝ }
     ensures { λ r. ⌜ r ≡ keysFrom (now («mac_key» .entry)) (now («enc_key» .entry)) ⌝ }
 {
     let mac = array_32(mac_key);
@@ -183,7 +188,7 @@ fn block_sizes(key: &[u8], block: &[u8], out: &[u8]) -> bool
 #[no_mangle]
 pub extern "C" fn noustrel_sm4_encrypt_block(key: &[u8], block: &[u8], out: &mut [u8]) -> u32
     ensures { λ r.
-        ⌜ Enciphered (now (key .entry)) (now (block .entry)) (now (out .entry)) r (now (out .exit)) ⌝ }
+        ⌜ EncipheredFor (now (key .entry)) (now (block .entry)) (now (out .entry)) r (now (out .exit)) ⌝ }
 {
     if !block_sizes(key, block, out) {
         return WRONG_SIZE as u32;
@@ -198,7 +203,7 @@ pub extern "C" fn noustrel_sm4_encrypt_block(key: &[u8], block: &[u8], out: &mut
 #[no_mangle]
 pub extern "C" fn noustrel_sm4_decrypt_block(key: &[u8], block: &[u8], out: &mut [u8]) -> u32
     ensures { λ r.
-        ⌜ Deciphered (now (key .entry)) (now (block .entry)) (now (out .entry)) r (now (out .exit)) ⌝ }
+        ⌜ DecipheredFor (now (key .entry)) (now (block .entry)) (now (out .entry)) r (now (out .exit)) ⌝ }
 {
     if !block_sizes(key, block, out) {
         return WRONG_SIZE as u32;
@@ -235,6 +240,59 @@ pub extern "C" fn noustrel_key_block(
         ⌜ KeyBlockFor (now («master_secret» .entry)) (now («client_random» .entry)) (now («server_random» .entry)) (now (out .entry)) r (now (out .exit)) ⌝ }
 {
     key_schedule::derive_key_block(master_secret, client_random, server_random, out) as u32
+}
+
+// Whether a key block has its size, and what is lent for each key too.
+fn halves_sizes(
+    key_block: &[u8],
+    client_mac_key: &[u8],
+    server_mac_key: &[u8],
+    client_enc_key: &[u8],
+    server_enc_key: &[u8],
+) -> bool
+    ensures { λ r.
+        ⌜ r ≡ halvesSizes (now («key_block» .entry)) (now («client_mac_key» .entry)) (now («server_mac_key» .entry)) (now («client_enc_key» .entry)) (now («server_enc_key» .entry)) ⌝ }
+{
+    key_block.len() == record::CBC_KEY_BLOCK_LEN
+        && (key_sizes(client_mac_key, client_enc_key) && key_sizes(server_mac_key, server_enc_key))
+}
+
+// The keys of one direction, each into its own span.
+fn put_keys(keys: RecordKeysCbc, mac_key: &mut [u8], enc_key: &mut [u8])
+    ensures mac { λ _. ⌜ now («mac_key» .exit) ≡ put 0 (keys .«mac_key») (now («mac_key» .entry)) ⌝ }
+    ensures enc { λ _. ⌜ now («enc_key» .exit) ≡ put 0 (keys .«enc_key») (now («enc_key» .entry)) ⌝ }
+{
+    words::copy_at(mac_key, 0, &keys.mac_key);
+    words::copy_at(enc_key, 0, &keys.enc_key);
+}
+
+// The keys of either side out of a key block of 128 bytes, MAC keys of 32 and cipher keys of 16. All four stay as found
+// where any size is wrong.
+#[no_mangle]
+pub extern "C" fn noustrel_key_halves(
+    key_block: &[u8],
+    client_mac_key: &mut [u8],
+    server_mac_key: &mut [u8],
+    client_enc_key: &mut [u8],
+    server_enc_key: &mut [u8],
+) -> u32
+    ensures { λ r.
+        ⌜ KeyHalvesFor (now («key_block» .entry)) (now («client_mac_key» .entry)) (now («server_mac_key» .entry)) (now («client_enc_key» .entry)) (now («server_enc_key» .entry)) r (now («client_mac_key» .exit)) (now («server_mac_key» .exit)) (now («client_enc_key» .exit)) (now («server_enc_key» .exit)) ⌝ }
+{
+    if !halves_sizes(
+        key_block,
+        client_mac_key,
+        server_mac_key,
+        client_enc_key,
+        server_enc_key,
+    ) {
+        return WRONG_SIZE as u32;
+    }
+    let client = RecordKeysCbc::client_half(key_block);
+    let server = RecordKeysCbc::server_half(key_block);
+    put_keys(client.keys, client_mac_key, client_enc_key);
+    put_keys(server.keys, server_mac_key, server_enc_key);
+    DONE as u32
 }
 
 // 0 is the client, any other number the server.

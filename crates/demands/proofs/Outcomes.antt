@@ -3,18 +3,17 @@
 use mathlib.Core.Path.{_≡_, sym, _∙_}
 use Rattle.words.proofs.OneOutcome.{Copied-one-outcome, Filled-one-outcome}
 use Rattle.sm3_lent.proofs.OneOutcome.{Started-one-outcome, Taken-one-outcome, Digested-one-outcome}
-use Rattle.cbc.proofs.OneOutcome.{Enciphered-one-outcome as cbc-Enciphered-one-outcome}
-use Rattle.cbc.proofs.OneOutcome.{Deciphered-one-outcome as cbc-Deciphered-one-outcome}
+use Rattle.cbc.proofs.OneOutcome.{Enciphered-one-outcome, Deciphered-one-outcome}
 use Rattle.key_schedule.proofs.OneOutcome.{MasterSecret-one-outcome, KeyBlock-one-outcome, Finished-one-outcome}
 use Rattle.record.proofs.OneOutcome.{Protected-one-outcome}
 use Rattle.verdict.proofs.OneOutcome.{Cleared-one-outcome}
 use Rattle.steps.proofs.OneOutcome.{Step-one-outcome}
 use Rattle.opening.proofs.OneOutcome.{Deprotected-one-outcome}
 use Rattle.border.proofs.OneOutcome.{Hashed-one-outcome, Maced-one-outcome, SealedFor-one-outcome}
-use Rattle.border.proofs.OneOutcome.{OpenedFor-one-outcome, Enciphered-one-outcome as border-Enciphered-one-outcome}
-use Rattle.border.proofs.OneOutcome.{Deciphered-one-outcome as border-Deciphered-one-outcome}
-use Rattle.border.proofs.OneOutcome.{MasterSecretFor-one-outcome, KeyBlockFor-one-outcome, FinishedFor-one-outcome}
-use Rattle.border.proofs.OneOutcome.{StartedFor-one-outcome, TakenFor-one-outcome, DigestedFor-one-outcome}
+use Rattle.border.proofs.OneOutcome.{OpenedFor-one-outcome, EncipheredFor-one-outcome, DecipheredFor-one-outcome}
+use Rattle.border.proofs.OneOutcome.{MasterSecretFor-one-outcome, KeyBlockFor-one-outcome, KeyHalvesFor-one-outcome}
+use Rattle.border.proofs.OneOutcome.{FinishedFor-one-outcome, StartedFor-one-outcome, TakenFor-one-outcome}
+use Rattle.border.proofs.OneOutcome.{DigestedFor-one-outcome}
 use Rattle.lines.proofs.OneOutcome.{JudgedPut-one-outcome, ChunkTold-one-outcome, LastTold-one-outcome}
 use Rattle.demands.specs.Outcomes.{Outcomes}
 
@@ -59,8 +58,8 @@ outcomes =
       «sm4::Sm4Cipher::new» = λ key. equation-one-outcome _;
       «sm4::Sm4Cipher::encrypt_block» = λ self block. equation-one-outcome _;
       «sm4::Sm4Cipher::decrypt_block» = λ self block. equation-one-outcome _;
-      «cbc::encipher_cbc» = λ cipher iv body _ _. cbc-Enciphered-one-outcome;
-      «cbc::decipher_block_cbc» = λ cipher «record» k out _ _. cbc-Deciphered-one-outcome;
+      «cbc::encipher_cbc» = λ cipher iv body _ _. Enciphered-one-outcome;
+      «cbc::decipher_block_cbc» = λ cipher «record» k out _ _. Deciphered-one-outcome;
       «hmac::xor_pad» = λ block pad. equation-one-outcome _;
       «hmac::ct_eq» = λ a b. equation-one-outcome _;
       «hmac::HmacSm3::new» = λ key. equation-one-outcome _;
@@ -99,12 +98,14 @@ outcomes =
           λ «mac_key» «enc_key» number «content_type» version iv text out _ _ _ _ _ _. SealedFor-one-outcome;
       «border::noustrel_open» =
           λ «mac_key» «enc_key» number «content_type» version «record» out _ _ _ _ _ _ _ _. OpenedFor-one-outcome;
-      «border::noustrel_sm4_encrypt_block» = λ key block out _ _ _ _. border-Enciphered-one-outcome;
-      «border::noustrel_sm4_decrypt_block» = λ key block out _ _ _ _. border-Deciphered-one-outcome;
+      «border::noustrel_sm4_encrypt_block» = λ key block out _ _ _ _. EncipheredFor-one-outcome;
+      «border::noustrel_sm4_decrypt_block» = λ key block out _ _ _ _. DecipheredFor-one-outcome;
       «border::noustrel_master_secret» =
           λ «pre_master» «client_random» «server_random» out _ _ _ _. MasterSecretFor-one-outcome;
       «border::noustrel_key_block» =
           λ «master_secret» «client_random» «server_random» out _ _ _ _. KeyBlockFor-one-outcome;
+      «border::noustrel_key_halves» =
+          λ «key_block» «client_mac_key» «server_mac_key» «client_enc_key» «server_enc_key» _ _ _ _ _ _ _ _ _ _. KeyHalvesFor-one-outcome;
       «border::noustrel_finished» = λ «master_secret» role «transcript_hash» out _ _ _ _. FinishedFor-one-outcome;
       «border::noustrel_sm3_start» = λ _ _. StartedFor-one-outcome;
       «border::noustrel_sm3_update» = λ h «data» _ _ _ _. TakenFor-one-outcome;

@@ -20,7 +20,7 @@ use Rattle.sm3_lent.specs.Promise.{Started, Taken, Digested}
 use Rattle.sm4_sbox.specs.Standard.{Sbox}
 use Rattle.sm4.specs.Standard.{cipherOf, encrypt, decrypt}
 use Rattle.sm4.specs.declared.Sm4Cipher.{Sm4Cipher}
-use Rattle.cbc.specs.Promise.{Enciphered as cbc-Enciphered, Deciphered as cbc-Deciphered}
+use Rattle.cbc.specs.Promise.{Enciphered, Deciphered}
 use Rattle.hmac.specs.Rfc2104.{B}
 use Rattle.hmac.specs.State.{started as hmac-started, updated as hmac-updated, finalized as hmac-finalized, verified}
 use Rattle.hmac.specs.State.{mac}
@@ -41,9 +41,8 @@ use Rattle.steps.specs.State.{started as steps-started}
 use Rattle.steps.specs.Promise.{Step}
 use Rattle.steps.specs.declared.OpeningCbc.{OpeningCbc}
 use Rattle.opening.specs.Promise.{Deprotected}
-use Rattle.border.specs.Promise.{Hashed, Maced, SealedFor, OpenedFor, Enciphered as border-Enciphered}
-use Rattle.border.specs.Promise.{Deciphered as border-Deciphered, MasterSecretFor, KeyBlockFor, FinishedFor, StartedFor}
-use Rattle.border.specs.Promise.{TakenFor, DigestedFor}
+use Rattle.border.specs.Promise.{Hashed, Maced, SealedFor, OpenedFor, EncipheredFor, DecipheredFor, MasterSecretFor}
+use Rattle.border.specs.Promise.{KeyBlockFor, KeyHalvesFor, FinishedFor, StartedFor, TakenFor, DigestedFor}
 use Rattle.lines.specs.Reading.{fresh as lines-fresh, taken, advanced, isBegun}
 use Rattle.lines.specs.Hexadecimal.{isHex, allHex}
 use Rattle.lines.specs.Input.{front}
@@ -72,6 +71,11 @@ Three {A} {B} {C} P = (a b : A) (x y : B) (l k : C) → P a x l → P b y k → 
 abbrev pub Four : {A B C D : Type 0} → (A → B → C → D → Type 0) → Type 0
 Four {A} {B} {C} {D} P = (a b : A) (x y : B) (l k : C) (m n : D) → P a x l m → P b y k n
     → (a ≡ b) × (x ≡ y) × (l ≡ k) × (m ≡ n)
+
+-- five things promised, and each is one
+abbrev pub Five : {A B C D E : Type 0} → (A → B → C → D → E → Type 0) → Type 0
+Five {A} {B} {C} {D} {E} P = (a b : A) (x y : B) (l k : C) (m n : D) (p q : E) → P a x l m p → P b y k n q
+    → (a ≡ b) × (x ≡ y) × (l ≡ k) × (m ≡ n) × (p ≡ q)
 
 -- a line for each public function, under its crate and name
 pub record Outcomes : Type 0 where
@@ -119,9 +123,9 @@ pub record Outcomes : Type 0 where
   pub «sm4::Sm4Cipher::decrypt_block» : (self : Sm4Cipher) (block : List ℕ)
       → Equation (decrypt (self .«round_keys») block)
   -- cbc
-  pub «cbc::encipher_cbc» : (cipher : Sm4Cipher) (iv body : List ℕ) → One (cbc-Enciphered cipher iv body)
+  pub «cbc::encipher_cbc» : (cipher : Sm4Cipher) (iv body : List ℕ) → One (Enciphered cipher iv body)
   pub «cbc::decipher_block_cbc» : (cipher : Sm4Cipher) («record» : List ℕ) (k : ℕ) (out : List ℕ)
-      → One (cbc-Deciphered cipher «record» k out)
+      → One (Deciphered cipher «record» k out)
   -- hmac
   pub «hmac::xor_pad» : (block : List ℕ) (pad : ℕ) → Equation (xorEach block (replicate B pad))
   pub «hmac::ct_eq» : (a b : List ℕ) → Equation (bit (agree a b))
@@ -181,12 +185,15 @@ pub record Outcomes : Type 0 where
   pub «border::noustrel_open» :
       («mac_key» «enc_key» : List ℕ) (number «content_type» version : ℕ) («record» out : List ℕ)
       → Four (OpenedFor «mac_key» «enc_key» number «content_type» version «record» out)
-  pub «border::noustrel_sm4_encrypt_block» : (key block out : List ℕ) → Two (border-Enciphered key block out)
-  pub «border::noustrel_sm4_decrypt_block» : (key block out : List ℕ) → Two (border-Deciphered key block out)
+  pub «border::noustrel_sm4_encrypt_block» : (key block out : List ℕ) → Two (EncipheredFor key block out)
+  pub «border::noustrel_sm4_decrypt_block» : (key block out : List ℕ) → Two (DecipheredFor key block out)
   pub «border::noustrel_master_secret» : («pre_master» «client_random» «server_random» out : List ℕ)
       → Two (MasterSecretFor «pre_master» «client_random» «server_random» out)
   pub «border::noustrel_key_block» : («master_secret» «client_random» «server_random» out : List ℕ)
       → Two (KeyBlockFor «master_secret» «client_random» «server_random» out)
+  pub «border::noustrel_key_halves» :
+      («key_block» «client_mac_key» «server_mac_key» «client_enc_key» «server_enc_key» : List ℕ)
+      → Five (KeyHalvesFor «key_block» «client_mac_key» «server_mac_key» «client_enc_key» «server_enc_key»)
   pub «border::noustrel_finished» : («master_secret» : List ℕ) (role : ℕ) («transcript_hash» out : List ℕ)
       → Two (FinishedFor «master_secret» role «transcript_hash» out)
   pub «border::noustrel_sm3_start» : One StartedFor

@@ -6,7 +6,8 @@ use borrow.Author.Needs.{needs}
 use borrow.Author.Tests.{not-true, not-false}
 use lib.ListN.{length}
 use Rattle.words.proofs.Tests.{both}
-use Rattle.border.specs.Border.{has, keySizes}
+use Rattle.record.specs.Limits.{MAC-LEN, IV-LEN}
+use Rattle.border.specs.Border.{KEY-SIZE, has, keySizes}
 use Rattle.border.proofs.Sizes.{is-long, keys-long}
 use Rattle.border.proofs.noustrel_seal.Statement.{statement}
 use Rattle.border.proofs.noustrel_seal.Tie as tie
@@ -22,14 +23,14 @@ module _ (c : tie.Else1) where
   abbrev s : tie.Start
   s = c .before .before .before .before .before .before .before
 
-  right : (keySizes (s .args .mac-key .now) (s .args .enc-key .now) && has 16 (s .args .iv .now)) ≡ true
+  right : (keySizes (s .args .mac-key .now) (s .args .enc-key .now) && has IV-LEN (s .args .iv .now)) ≡ true
   right = sym (c .before .seal-sizes .ensures) ∙ not-false (c .before .seal-sizes .result) (c .if1 .left)
 
-  keys : (length (s .args .mac-key .now) ≡ 32) × (length (s .args .enc-key .now) ≡ 16)
+  keys : (length (s .args .mac-key .now) ≡ MAC-LEN) × (length (s .args .enc-key .now) ≡ KEY-SIZE)
   keys = keys-long _ _ (both _ _ right .0)
 
-  iv : length (s .args .iv .now) ≡ 16
-  iv = is-long 16 _ (both (keySizes (s .args .mac-key .now) (s .args .enc-key .now)) _ right .1)
+  iv : length (s .args .iv .now) ≡ IV-LEN
+  iv = is-long IV-LEN _ (both (keySizes (s .args .mac-key .now) (s .args .enc-key .now)) _ right .1)
 
 returns-2 : tie.Need-returns-2
 returns-2 c =

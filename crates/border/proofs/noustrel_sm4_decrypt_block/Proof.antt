@@ -1,9 +1,9 @@
--- `border::noustrel_sm4_decrypt_block` meets its contract: a block laid over 16 bytes is all there is. Assumes nothing.
+-- `border::noustrel_sm4_decrypt_block` meets its contract: a block laid over room for just it is all there is. Assumes nothing.
 use mathlib.Core.Path.{_≡_}
 use borrow.Author.Needs.{needs}
 use lib.ListN.{length}
 use Rattle.sm4.specs.Standard.{cipherOf}
-use Rattle.border.specs.Border.{answerFor}
+use Rattle.border.specs.Border.{BLOCK-SIZE, answerFor}
 use Rattle.border.proofs.Blocks.{failed, passed, laid}
 use Rattle.border.proofs.noustrel_sm4_decrypt_block.Statement.{statement}
 use Rattle.border.proofs.noustrel_sm4_decrypt_block.Tie as tie
@@ -19,7 +19,7 @@ returns-2 c =
     let made = copied .before .before .before in
     let e = made .before .before .before .before in
     let s = passed _ _ _ (e .before .block-sizes .ensures) (e .if1 .left) in
-    let n : length (made .decrypt-block .result) ≡ 16 = search needs in
+    let n : length (made .decrypt-block .result) ≡ BLOCK-SIZE = search needs in
     record {
       result = rw (s .sizes);
       output =
