@@ -1,11 +1,12 @@
 -- `border::noustrel_seal` meets its contract: 9 where a size is wrong, else `protect_cbc` of the keys, the version's bytes and
 -- the IV that the slices hold. Assumes nothing.
 use mathlib.Core.Bool.{true, _&&_}
-use mathlib.Core.Path.{_≡_, sym, _∙_}
+use mathlib.Core.Path.{_≡_, sym, ap, _∙_}
 use borrow.Author.Needs.{needs}
 use borrow.Author.Tests.{not-true, not-false}
 use lib.ListN.{length}
 use Rattle.words.proofs.Tests.{both}
+use Rattle.record.specs.declared.Sealed.{Sealed}
 use Rattle.record.specs.Limits.{MAC-LEN, IV-LEN}
 use Rattle.border.specs.Border.{KEY-SIZE, has, keySizes}
 use Rattle.border.proofs.Sizes.{is-long, keys-long}
@@ -43,7 +44,7 @@ returns-2 c =
     record {
       result = rw (right e, p .result);
       output = rw (right e, p .output, keyed .keys-from .ensures, version .u16-to-be-bytes .ensures, start .array-16 .ensures);
-      reported = rw (right e, p .result);
+      reported = rw (right e) (ap (λ (s : Sealed). s .length) (p .result));
     }
 
 pub noustrel-seal-spec : {M : Type 1} → statement M
