@@ -13,17 +13,17 @@ help:
 	@echo 'make          build/libborder.a, the library for C and Rust on x86-64'
 	@echo 'make header   compare the C header and the Rust wrapper with the source'
 	@echo 'make wrapper  test the safe Rust wrapper over the library'
-	@echo 'make test     the gate: the form of the statements, the lists in docs/, every proof, where each wrong program is refused'
+	@echo 'make test     the gate: the form of the statements, the lists in docs/, every proof, where each edit is refused'
 	@echo 'make vectors  prove and run the programs of published vectors'
 	@echo 'make lengths  prove the program lengths, run it and try its edges'
 	@echo 'make port     build/port: the library behind the line protocol'
 	@echo 'make differential       compare the Rust, the port and a model (a few thousand cases); -long: a million'
-	@echo 'make teeth    the Rust with errors that look right, which the comparison must catch'
+	@echo 'make teeth    the Rust with errors that look right: the comparison must catch all but two, which change no answer'
 	@echo 'make oracle   build the Rust, unchanged, behind the line protocol, and try it (RUST_SRC=DIR)'
 	@echo 'make bench    time the code beside the Rust, OpenSSL and libgcrypt, in one run: build/bench.tsv, docs/bench.svg'
-	@echo 'make ct       valgrind over the library: no jump and no address by a secret'
+	@echo 'make ct       valgrind over the library, and an emulator for x86-64: no jump and no address by a secret, but for one test (docs/BENCHMARKS.md)'
 	@echo 'make fuzz     random calls between guard pages, held to a model, for a minute (SECONDS=3600 SEED=1)'
-	@echo 'make edits    docs/EDITS.md: where each wrong program is refused, from the logs of rt ci'
+	@echo 'make edits    docs/EDITS.md: where each edit is refused, from the logs of rt ci'
 	@echo 'make clean    remove build/ and target/'
 
 # The gate, whatever make was told: its last line is the last of the run.
@@ -91,7 +91,7 @@ differential: oracle port
 differential-long: oracle port
 	differential/run --long build/noustrel-oracle build/port
 
-# The Rust with an error that looks right must be caught.
+# The Rust with an error that looks right must be caught, but for two that change no answer.
 teeth: port
 	differential/teeth $(RUST_SRC) build/port build/teeth
 

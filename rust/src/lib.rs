@@ -117,7 +117,7 @@ pub enum Error {
     BadState = 7,
     /// A step on an ended opening. No function of this crate makes single steps.
     Ended = 8,
-    /// A key, IV, secret, random, hash or output of a length other than the one asked for.
+    /// A key, key block, IV, block, secret, random, hash or output of a length other than the one asked for.
     WrongSize = 9,
 }
 

@@ -1,6 +1,6 @@
-// The C-callable functions: numbers and byte slices, a slice as a pointer and a length. A cipher key, record MAC key, key
-// block, IV, block, digest or MAC of another size than its own is answer 9, before all else, and what was lent stays as found;
-// reported numbers are written on every call, 0 with a refusal (but T with answer 6).
+// The C-callable functions: numbers and byte slices, a slice as a pointer and a length. A key schedule argument, cipher key,
+// record MAC key, key block to be cut, IV, block, digest or MAC of another size than its own is answer 9, before all else, and
+// what was lent stays as found; reported numbers are written on every call, 0 with a refusal (but the count is T with answer 6).
 ghost use mathlib.Core.Bool.{_&&_};
 ghost use mathlib.Core.Path.{_≡_};
 ghost use lib.ListN.{length};

@@ -1,6 +1,6 @@
 -- The stand-ins among the steppers do not meet what is asked: two are refuted by opening one record into two outputs that differ in
--- one byte, one by its count after step 1, one by a record with bad padding beside one with a wrong MAC, one by a step too many.
--- Assumes nothing.
+-- one byte, one by its count after step 1, one by a record with bad padding beside one with a wrong MAC, one by the padding
+-- mark in a report, one by a step too many, one by an opening that no start leads to. Assumes nothing.
 use mathlib.Core.Bool.{Bool, true, false, cond, _&&_}
 use mathlib.Core.List.{List, _∷_, _++_}
 use mathlib.Core.Path.{_≡_, refl, sym, ap, ap₂, _∙_}

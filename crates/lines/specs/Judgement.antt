@@ -27,7 +27,7 @@ Bad = 2
 
 -- no size is given
 abbrev pub unsized : ℕ → Judged
-unsized kind = record { kind = kind; «record_len» = 0; answer = 0; total = 0 }
+unsized kind = record { kind = kind; «record_len» = 0; answer = Done; total = 0 }
 
 -- the length of a record of r bytes, its size answer, and T, or 0 if it is refused
 unfoldable pub sized : ℕ → Judged

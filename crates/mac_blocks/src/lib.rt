@@ -1,6 +1,7 @@
 // The record's MAC in blocks, from the parts of mac_ct in the Rust's tlcp/record.rs: the same work for every text length up to
-// a public bound. The header, the number of bytes lent and the block's number are public; the text's length and its bytes
-// are not, so every byte of a block is selected by masks, and the words are kept by a mask.
+// a public bound. The number of bytes lent and the block's number are public; the text's length, the header, which ends in it,
+// and the text's bytes are not, so every byte of a block is selected by masks or read at a public place, and the words are
+// kept by a mask.
 ghost use mathlib.Core.Bool.{cond};
 ghost use mathlib.Core.List.{[], _∷_, _++_};
 ghost use mathlib.Core.Path.{_≡_};

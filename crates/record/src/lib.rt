@@ -1,6 +1,6 @@
 // TLCP's record under SM4 in CBC, GB/T 38636-2020 section 6.3, from the CBC part of the Rust's tlcp/record.rs: the halves of
 // a key block, the MAC's header, and sealing. Lengths, the role, number, type and version are public; keys and text are not
-// branched on.
+// branched on. The length given to record_header is secret where an opening calls it; it is only copied.
 ghost use mathlib.Core.List.{_++_};
 ghost use mathlib.Core.Path.{_≡_};
 ghost use Prim.Native.Nat.{_+_, _≤_};
