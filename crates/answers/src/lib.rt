@@ -1,4 +1,6 @@
 // The answer numbers by name, as the scope's table has them. Every call that can refuse answers one of these.
+#![tactic(auto)]
+
 pub const DONE: u8 = 0;
 
 pub const TOO_LONG: u8 = 1;

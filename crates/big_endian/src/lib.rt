@@ -1,4 +1,6 @@
 // Numbers as bytes and back, the highest byte first: `from_be_bytes` and `to_be_bytes`. Definitions and laws in words.
+#![tactic(auto)]
+
 ghost use Rattle.std.specs.Prelude.{◌≡◌, ◌<◌};
 ghost use Rattle.words.specs.Bytes.{be, number};
 

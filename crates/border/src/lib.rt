@@ -1,6 +1,8 @@
 // The C-callable functions: numbers and byte slices, a slice as a pointer and a length. A key schedule argument, cipher key,
 // record MAC key, key block to be cut, IV, block, digest or MAC of another size than its own is answer 9, before all else, and
 // what was lent stays as found; reported numbers are written on every call, 0 with a refusal (but the count is T with answer 6).
+#![tactic(auto)]
+
 ghost use Rattle.std.specs.Prelude.{◌&&◌, ◌≡◌, length};
 ghost use Rattle.words.specs.Lists.{put};
 ghost use Rattle.record.specs.Limits.{mac_len, iv_len};

@@ -1,6 +1,8 @@
 // The mode CBC over SM4, from the CBC part of the Rust's tlcp/record.rs: a body enciphered in place, and one block of a
 // record deciphered. Lengths and block numbers are public; no branch and no index depends on a key or on what is
 // enciphered or deciphered.
+#![tactic(auto)]
+
 ghost use Rattle.std.specs.Prelude.{◌≡◌, ◌+◌, ◌≤◌, length, take, drop};
 ghost use Rattle.words.specs.Lists.{xor_each};
 ghost use Rattle.cbc.specs.Promise.{Enciphered, Deciphered};

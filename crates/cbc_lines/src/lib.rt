@@ -1,5 +1,7 @@
 // CBC both ways, as two lines that the programs of SM4's vectors print. No part of the library. As in `programs`, what is
 // printed is no part of a contract.
+#![tactic(auto)]
+
 ghost use Rattle.std.specs.Prelude.{◌≡◌};
 
 use programs::{line, text};

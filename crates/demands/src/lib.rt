@@ -13,3 +13,4 @@
 // before all else.
 // How tight they are: specs/OnlyOurs, what meets them is ours; specs/StandIns, wrong functions that do not, refuted in
 // proofs/StandInOpeners and proofs/StandInSteppers.
+#![tactic(auto)]

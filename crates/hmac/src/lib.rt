@@ -1,6 +1,8 @@
 // HMAC-SM3, RFC 2104 over SM3: `hmac_sm3` and the running `HmacSm3` (new, update, finalize, verify), from the Rust's
 // hmac.rs. A state goes by value and comes back; one whose inner or outer fill is above 63 is refused with answer 7.
 // Lengths and fills are public; the key, the message and the digests are not branched on.
+#![tactic(auto)]
+
 ghost use Rattle.std.specs.Prelude.{◌≡◌, replicate};
 ghost use Rattle.words.specs.Choice.{bit};
 ghost use Rattle.words.specs.Lists.{xor_each, agree};
@@ -16,19 +18,19 @@ pub const IPAD: u8 = 0x36;
 pub const OPAD: u8 = 0x5c;
 
 // A running MAC: the inner hash, with K' XOR ipad and the message so far, and the outer one, with K' XOR opad.
-#[derive(Drop)]
+#[derive(Clone, Copy)]
 pub struct HmacSm3 {
     pub inner: Sm3,
     pub outer: Sm3,
 }
 
-#[derive(Drop)]
+#[derive(Clone, Copy)]
 pub struct Keyed {
     pub answer: u8,
     pub mac: HmacSm3,
 }
 
-#[derive(Drop)]
+#[derive(Clone, Copy)]
 pub struct Verified {
     pub answer: u8,
     pub matches: bool,

@@ -1,6 +1,8 @@
 // TLCP's key schedule, GB/T 38636-2020 section 6.5, from the Rust's key_schedule.rs: P_hash of RFC 5246 with HMAC-SM3, and the
 // three derivations made of it. A length out of place is answer 9, tested before all else, and leaves the output as found.
 // Lengths, labels, the role and the output's length are public; the secrets and what is made of them are not branched on.
+#![tactic(auto)]
+
 ghost use Rattle.std.specs.Prelude.{◌++◌, ◌≡◌, ◌≤◌, length};
 ghost use Rattle.sm3.specs.Standard.{SM3};
 ghost use Rattle.hmac.specs.Rfc2104.{HMAC};
@@ -24,7 +26,7 @@ pub const RANDOM_LEN: usize = 32;
 pub const MAX_KEY_BLOCK: usize = 1024;
 
 // Whose Finished message it is.
-#[derive(Drop)]
+#[derive(Clone, Copy)]
 pub enum TlcpRole {
     Client,
     Server,

@@ -1,11 +1,13 @@
 // Runs the three derivations on right lengths and on lengths one off, and writes what each answers and leaves in its output,
 // one line each. The file stdout has the values of OpenSSL, which the script `expected` gathers.
+#![tactic(auto)]
+
 ghost use Rattle.std.specs.Prelude.{◌≤◌};
 
 use key_schedule::TlcpRole;
 use programs::{line, number, spread, text};
 
-#[derive(Drop)]
+#[derive(Clone, Copy)]
 enum Derivation {
     MasterSecret,
     KeyBlock,

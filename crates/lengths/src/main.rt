@@ -1,6 +1,8 @@
 // Reads lines of hexadecimal, one record a line, and prints for each the record's length, its size answer and the number
 // of steps that opening it takes, or `long` or `bad`. What is printed is made by `lines`: here bytes are read and written.
 // The buffers stay as they are, however long a line or the input is.
+#![tactic(auto)]
+
 ghost use Rattle.std.specs.Prelude.{true, false, ◌≡◌, ◌≤◌, length};
 ghost use Rattle.lines.specs.Reading.{fresh, begun};
 
@@ -13,7 +15,7 @@ const CHUNK: usize = 4096;
 const ROOM: usize = MOST_TEXT * CHUNK;
 
 // Whether the input goes on, and the line that is begun.
-#[derive(Drop)]
+#[derive(Clone, Copy)]
 struct Read {
     more: bool,
     line: Line,
@@ -59,7 +61,7 @@ fn read_some(line: Line) -> Read
 }
 
 // The line that is begun where the reading ends, after how many reads, and whether the input still goes on.
-#[derive(Drop)]
+#[derive(Clone, Copy)]
 struct Ended {
     line: Line,
     reads: u64,

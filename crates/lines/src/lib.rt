@@ -2,6 +2,8 @@
 // `lengths` stands on.
 // A character is a byte. Of the line being read only a count and a mark are kept, so that no line is too long to be read. Nothing
 // here is secret.
+#![tactic(auto)]
+
 ghost use Rattle.std.specs.Prelude.{◌≡◌, ◌∷◌, [], ◌+◌, ◌≤◌, ◌<◌, min, length};
 ghost use Rattle.lines.specs.Hexadecimal.{is_hex, all_hex};
 ghost use Rattle.lines.specs.Input.{front};
@@ -15,7 +17,7 @@ use answers::{DONE, NO_ROOM};
 use record::IV_LEN;
 
 // A line so far: how many characters, counted no further than a usize goes, and whether each is a lower-case digit.
-#[derive(Drop)]
+#[derive(Clone, Copy)]
 pub struct Line {
     pub count: usize,
     pub hex: bool,
@@ -23,7 +25,7 @@ pub struct Line {
 
 // What one step over a part of the input leaves: the line so far, whole where it ended; how many bytes are done with; and
 // whether a newline ended the line.
-#[derive(Drop)]
+#[derive(Clone, Copy)]
 pub struct Step {
     pub line: Line,
     pub used: usize,
@@ -151,7 +153,7 @@ pub const BAD: u8 = 2;
 
 // The kind of a line; for a SIZED one the record's length, its size answer, and the steps that opening it takes, 0 where
 // the size is refused.
-#[derive(Drop)]
+#[derive(Clone, Copy)]
 pub struct Judged {
     pub kind: u8,
     pub record_len: usize,
@@ -307,7 +309,7 @@ fn next_line(step: Step) -> Line
 }
 
 // What telling of a part of the input leaves: its answer, the line begun, and how many bytes of the output are written.
-#[derive(Drop)]
+#[derive(Clone, Copy)]
 pub struct Told {
     pub answer: u8,
     pub line: Line,

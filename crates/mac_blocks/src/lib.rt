@@ -2,6 +2,8 @@
 // a public bound. The number of bytes lent and the block's number are public; the text's length, the header, which ends in it,
 // and the text's bytes are not, so every byte of a block is selected by masks or read at a public place, and the words are
 // kept by a mask.
+#![tactic(auto)]
+
 ghost use Rattle.std.specs.Prelude.{cond, [], ◌∷◌, ◌++◌, ◌≡◌, ◌+◌, ◌/◌, ◌%◌, ◌≤◌, ◌<◌, ◌^◌, min, eqb, length, get_or, take, replicate};
 ghost use Rattle.words.specs.Choice.{bit};
 ghost use Rattle.words.specs.Lists.{xor_each};
@@ -17,7 +19,7 @@ use sm3_compress::compress;
 const HEADER_LEN: usize = 13;
 
 // The chaining words, and the inner hash once the final block is past.
-#[derive(Drop)]
+#[derive(Clone, Copy)]
 pub struct MacWords {
     pub words: [u32; 8],
     pub kept: [u32; 8],

@@ -1,5 +1,7 @@
 // What the Rust takes from the crate `subtle`: comparisons as numbers 0 or 1, and selects by a mask made of one. No branch on what is
 // compared or selected. Definitions and laws in words.
+#![tactic(auto)]
+
 ghost use Rattle.std.specs.Prelude.{◌≡◌, eqb, ltb};
 ghost use Rattle.words.specs.Choice.{bit, chosen};
 

@@ -1,10 +1,12 @@
 // Opening a record by one call, from deprotect_cbc of the Rust's tlcp/record.rs: the start, and then all its steps.
+#![tactic(auto)]
+
 ghost use Rattle.opening.specs.Promise.{Deprotected};
 
 use record::RecordKeysCbc;
 
 // Answer, text length and the number of steps that were made.
-#[derive(Drop)]
+#[derive(Clone, Copy)]
 pub struct Opened {
     pub answer: u8,
     pub length: usize,

@@ -1,6 +1,8 @@
 // Opens records by the one call: every length of padding, the sizes about each limit, texts longer than what is sealed, wrong
 // padding, wrong MACs, headers of another record, and rooms. A line has the answer, the length, the count and a digest of the
 // whole output. The file stdout has the values of other implementations, which the script `expected` gathers.
+#![tactic(auto)]
+
 ghost use Rattle.std.specs.Prelude.{◌≤◌, length};
 
 use opening::Opened;

@@ -1,5 +1,7 @@
 // The padding of a deciphered body, read without a branch on its bytes, from check_tls_padding_ct of the Rust's
 // tlcp/record.rs. The body's length is public; its bytes, and so the padding's length, are not.
+#![tactic(auto)]
+
 ghost use Rattle.std.specs.Prelude.{cond, ◌&&◌, ◌≡◌, ◌+◌, min, eqb, ltb};
 ghost use Rattle.words.specs.Word.{◌⊕◌};
 ghost use Rattle.record.specs.Opened.{last_byte, pad_fits, good_pad};
@@ -8,7 +10,7 @@ ghost use Rattle.padding.specs.Scan.{checked};
 use record::MAC_LEN;
 
 // pad_ok is 1 where the padding is good, else 0; held is the length at which the MAC is worked out and compared.
-#[derive(Drop)]
+#[derive(Clone, Copy)]
 pub struct Padding {
     pub pad_ok: u8,
     pub held: usize,

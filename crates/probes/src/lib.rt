@@ -1,5 +1,7 @@
 // Functions for runs that need what the library does not export, and no part of what is shipped: the streamed MAC, and its
 // verification. A tag of another size than 32 is answer 9, before all else. Lengths are public; key, message and tag are not.
+#![tactic(auto)]
+
 ghost use Rattle.std.specs.Prelude.{◌≡◌, length};
 ghost use Rattle.probes.specs.Probes.{answer_for, sized, filled, verified_for};
 ghost use Rattle.probes.specs.Promise.{MacedParts};

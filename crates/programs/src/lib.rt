@@ -1,5 +1,7 @@
 // What the programs of vectors share: printing, and bytes made by a rule. No part of the library. What is printed is no part of
 // a contract, since none can say what is written to a file: the gate compares each program's output with its file stdout.
+#![tactic(auto)]
+
 ghost use Rattle.std.specs.Prelude.{◌≡◌};
 ghost use Rattle.programs.specs.Promise.{Spread};
 

@@ -1,6 +1,8 @@
 // The lines of the comparison with the Rust: fields with one space between them, the command first, which is field 0. A field
 // is a side, c or s, a number in decimal, or bytes in lower-case hexadecimal, `-` for none. A character is a byte. Nothing here
 // is secret.
+#![tactic(auto)]
+
 ghost use Rattle.std.specs.Prelude.{◌≡◌, ◌≤◌, length};
 ghost use Rattle.words.specs.Lists.{agree};
 ghost use Rattle.protocol.specs.Fields.{
@@ -28,7 +30,7 @@ pub const BYTES: u8 = 253;
 const MALFORMED: usize = usize::MAX;
 
 // A number, if it is good.
-#[derive(Drop)]
+#[derive(Clone, Copy)]
 pub struct Parsed {
     pub good: bool,
     pub value: u64,

@@ -1,6 +1,8 @@
 // TLCP's record under SM4 in CBC, GB/T 38636-2020 section 6.3, from the CBC part of the Rust's tlcp/record.rs: the halves of
 // a key block, the MAC's header, and sealing. Lengths, the role, number, type and version are public; keys and text are not
 // branched on. The length given to record_header is secret where an opening calls it; it is only copied.
+#![tactic(auto)]
+
 ghost use Rattle.std.specs.Prelude.{◌++◌, ◌≡◌, ◌+◌, ◌≤◌, length};
 ghost use Rattle.words.specs.Lists.{put};
 ghost use Rattle.sm3.specs.Standard.{SM3};
@@ -37,19 +39,19 @@ pub const HEADER_LEN: usize = 13;
 pub const IV_LEN: usize = 16;
 
 // The keys of one direction.
-#[derive(Drop)]
+#[derive(Clone, Copy)]
 pub struct RecordKeysCbc {
     pub mac_key: [u8; 32],
     pub enc_key: [u8; 16],
 }
 
-#[derive(Drop)]
+#[derive(Clone, Copy)]
 pub struct Halved {
     pub answer: u8,
     pub keys: RecordKeysCbc,
 }
 
-#[derive(Drop)]
+#[derive(Clone, Copy)]
 pub struct Sealed {
     pub answer: u8,
     pub length: usize,

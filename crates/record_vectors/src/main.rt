@@ -1,5 +1,7 @@
 // Takes the halves of a key block and seals texts about the ends of blocks and of the limit, and writes what is answered,
 // one line each. The file stdout has the values of other implementations, which the script `expected` gathers.
+#![tactic(auto)]
+
 ghost use Rattle.std.specs.Prelude.{◌≤◌};
 
 use key_schedule::TlcpRole;

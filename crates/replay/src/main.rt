@@ -1,6 +1,8 @@
 // Reads lines of the comparison with the Rust, does what each asks for and prints the answer. The file stdin is a list of such
 // lines and stdout what the Rust answered to them; ORIGIN says which Rust, and how both were recorded. A line that is malformed,
 // over 4,096 characters or of another command is answered `bad`.
+#![tactic(auto)]
+
 ghost use Rattle.io.specs.Counts.{IsPrefixLen};
 
 use hmac::HmacSm3;
@@ -353,7 +355,7 @@ fn take_all(line: &mut [u8], fill: usize, input: &[u8]) -> usize {
 }
 
 // Whether the input goes on, and how much of a line is begun.
-#[derive(Drop)]
+#[derive(Clone, Copy)]
 struct Read {
     more: bool,
     fill: usize,

@@ -1,6 +1,8 @@
 // The hash function SM3, GB/T 32905-2016: the running hash `Sm3` (new, update, finalize) and `hash`, from the Rust's
 // sm3.rs. A state goes by value and comes back; a state whose fill is above 63 is refused with answer 7. Lengths and
 // the fill are public, and only they are branched on.
+#![tactic(auto)]
+
 ghost use Rattle.std.specs.Prelude.{◌≡◌, ◌+◌, ◌-◌, ◌<◌, ◌≤◌, ◌∷◌, ◌++◌, length, take, drop, replicate};
 ghost use Rattle.sm3.specs.Standard.{bytes_of, iteration, count};
 ghost use Rattle.sm3.specs.State.{fresh, absorbed, pending, base, updated, finalized, hashed};
@@ -27,7 +29,7 @@ pub const BLOCK_SIZE: usize = 64;
 // A running hash: the words after the whole blocks, the buffer with the bytes since, how many of its bytes those are,
 // and the count of all bytes, modulo 2^64.
 #[repr(C)]
-#[derive(Drop)]
+#[derive(Clone, Copy)]
 pub struct Sm3 {
     pub state: [u32; 8],
     pub buffer: [u8; 64],
@@ -35,13 +37,13 @@ pub struct Sm3 {
     pub total_len: u64,
 }
 
-#[derive(Drop)]
+#[derive(Clone, Copy)]
 pub struct Updated {
     pub answer: u8,
     pub hasher: Sm3,
 }
 
-#[derive(Drop)]
+#[derive(Clone, Copy)]
 pub struct Digest {
     pub answer: u8,
     pub bytes: [u8; 32],

@@ -1,5 +1,7 @@
 // The compression function CF of SM3, GB/T 32905-2016, section 5.3: `compress` of the Rust's sm3.rs.
 // No branch and no index depends on the words or the block: j is public.
+#![tactic(auto)]
+
 ghost use Rattle.std.specs.Prelude.{◌≡◌, ◌≤◌, ◌<◌, take};
 ghost use Rattle.words.specs.Lists.{xor_each};
 ghost use Rattle.sm3_compress.specs.Rounds.{rounds_from};

@@ -1,6 +1,8 @@
 // The running hash SM3 where it stands: `start` and `update` alter a state that is lent to them, `finish` reads one, in place
 // of the Rust's methods over `&mut self` (sm3.rs). Each is thin: the state goes by value to a function that the checker
 // covers, and what comes back is stored whole. Lengths and the fill are public, and only they are branched on.
+#![tactic(auto)]
+
 ghost use Rattle.std.specs.Prelude.{◌∷◌, ◌++◌, [], ◌≡◌};
 ghost use Rattle.sm3.specs.Cutting.{fed};
 ghost use Rattle.sm3.specs.State.{fresh, hashed};

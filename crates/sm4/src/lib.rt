@@ -1,6 +1,8 @@
 // The block cipher SM4, GB/T 32907-2016: `Sm4Cipher` (new, encrypt_block, decrypt_block), the byte-table path of the Rust's
 // sm4/cipher.rs. Key, round keys and block are secret: no branch and no index depends on them. The number of a round and
 // the direction are public.
+#![tactic(auto)]
+
 ghost use Rattle.std.specs.Prelude.{[], ◌∷◌, ◌≡◌, ◌<◌, length, get_or};
 ghost use Rattle.sm4_sbox.specs.Pass.{Counts};
 ghost use Rattle.sm4.specs.Standard.{
@@ -69,13 +71,13 @@ pub const CK: [u32; 32] = [
 ];
 
 // A cipher under one key: its 32 round keys.
-#[derive(Drop)]
+#[derive(Clone, Copy)]
 pub struct Sm4Cipher {
     pub round_keys: [u32; 32],
 }
 
 // Four words in a row of the sequence X of a block, or K of a key.
-#[derive(Drop)]
+#[derive(Clone, Copy)]
 pub struct Quad {
     pub x0: u32,
     pub x1: u32,

@@ -1,5 +1,7 @@
 // Runs SM4, block by block and in mode CBC, on vectors that other implementations publish, and writes what it answers, one
 // line each. The file stdout has their values, which the script `expected` gathers and names.
+#![tactic(auto)]
+
 ghost use Rattle.std.specs.Prelude.{◌<◌, ◌≡◌, length};
 
 use cbc_lines::both_cbc;

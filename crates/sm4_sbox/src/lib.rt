@@ -1,5 +1,7 @@
 // The S-box of SM4, GB/T 32907-2016, section 6.2: `S_BOX` and `sbox_ct` of the Rust's sm4/cipher.rs.
 // The byte looked up is secret: no branch and no index depends on it, and every lookup passes over all 256 entries.
+#![tactic(auto)]
+
 ghost use Rattle.std.specs.Prelude.{◌≡◌, get_or};
 ghost use Rattle.sm4_sbox.specs.Pass.{Counts};
 ghost use Rattle.sm4_sbox.specs.Standard.{Sbox};

@@ -1,5 +1,7 @@
 // SM4 as the timing program calls it, and no part of what is shipped: the key expansion, and then CBC in place over a
 // body. An empty body times the expansion alone.
+#![tactic(auto)]
+
 ghost use Rattle.std.specs.Prelude.{◌≡◌};
 ghost use Rattle.sm4_timing.specs.Promise.{Timed};
 ghost use Rattle.sm4_timing.specs.Timing.{fitted};

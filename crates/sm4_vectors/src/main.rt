@@ -1,6 +1,8 @@
 // Runs SM4 on the examples of GB/T 32907-2016, annex A, and its mode CBC on bodies of some lengths and on block numbers in
 // range and out of it, and writes what it answers, one line each. The file stdout has the values of the standard and of
 // another implementation, which the script `expected` gathers and names.
+#![tactic(auto)]
+
 use cbc_lines::both_cbc;
 use programs::{label, line, number, spread};
 use sm4::Sm4Cipher;

@@ -1,6 +1,8 @@
 // Opens records step by step and writes every field of the state, and a digest of the whole output, after each step: records
 // that are accepted and refused, states that were tampered with, ended openings and refused starts. The file stdout has the
 // values of a model that was written from the rules, which the script `expected` runs.
+#![tactic(auto)]
+
 ghost use Rattle.std.specs.Prelude.{◌≤◌};
 
 use programs::{hex, label, line, number, spread, text};

@@ -2,6 +2,8 @@
 // deprotect_cbc (tlcp/record.rs) does in one go. Which piece follows from the body's length and the number of steps done,
 // both public. Keys, deciphered bytes, the length held and the padding mark are secret and pass through masks only; the one
 // test on such a value is `held_too_long`.
+#![tactic(auto)]
+
 ghost use Rattle.std.specs.Prelude.{false, not, ◌&&◌, [], ◌≡◌, ◌+◌, ◌-◌, ◌/◌, ◌≤◌, ◌<◌, leb, ltb, length};
 ghost use Rattle.record.specs.Limits.{iv_len};
 ghost use Rattle.steps.specs.Promise.{Step};
@@ -15,7 +17,7 @@ use record::{IV_LEN, MAC_LEN, RecordKeysCbc};
 use sm4::Sm4Cipher;
 
 // An opening that has been started: what the steps so far have found, and the number of steps done. All zero before a start.
-#[derive(Drop)]
+#[derive(Clone, Copy)]
 pub struct OpeningCbc {
     pub words: [u32; 8],
     pub kept: [u32; 8],
@@ -34,7 +36,7 @@ pub struct OpeningCbc {
 }
 
 // The opening after a start or a step, and the report: answer, text length, steps done.
-#[derive(Drop)]
+#[derive(Clone, Copy)]
 pub struct Stepped {
     pub opening: OpeningCbc,
     pub answer: u8,

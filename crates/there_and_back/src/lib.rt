@@ -1,5 +1,7 @@
 // There and back: a text is sealed and its record opened again by one call. What the two functions promise, taken together, says
 // that the text comes back.
+#![tactic(auto)]
+
 ghost use Rattle.there_and_back.specs.Promise.{ThereAndBack};
 
 use answers::DONE;

@@ -1,6 +1,8 @@
 // The end of an opening without a branch on what was deciphered: the MAC copied from its place, one verdict, and the bytes
 // that are no text cleared, from extract_mac_ct and the merge in deprotect_cbc of the Rust's tlcp/record.rs. Lengths of
 // slices are public; the text's length, the marks and all bytes are not.
+#![tactic(auto)]
+
 ghost use Rattle.std.specs.Prelude.{cond, ◌≡◌, ◌%◌, eqb, length};
 ghost use Rattle.record.specs.Limits.{mac_len};
 ghost use Rattle.verdict.specs.Promise.{Cleared};
@@ -9,7 +11,7 @@ ghost use Rattle.verdict.specs.Verdict.{extracted, verdict_of};
 use answers::{BAD_RECORD, DONE};
 use record::MAC_LEN;
 
-#[derive(Drop)]
+#[derive(Clone, Copy)]
 pub struct Verdict {
     pub answer: u8,
     pub length: usize,

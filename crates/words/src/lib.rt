@@ -1,5 +1,7 @@
 // Words and spans: what the Rust takes from its language, as total functions. rotate_left, sums of words, div_ceil; bounded
 // copies and fills. Definitions in specs/, laws for the crates above in proofs/.
+#![tactic(auto)]
+
 ghost use Rattle.std.specs.Prelude.{◌≡◌, ◌+◌, ◌-◌, ◌/◌, ◌%◌, ◌^◌, min};
 ghost use Rattle.words.specs.Word.{◌⋘◌};
 ghost use Rattle.words.specs.Promise.{Copied, Filled};

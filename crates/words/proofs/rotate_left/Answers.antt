@@ -3,8 +3,7 @@ use Rattle.std.proofs.Common.{◌≡◌, ℕ, zero, suc, ◌-◌, ◌*◌, ◌/�
 use lib.Bits.{bit_or, or_self}
 use Rattle.words.specs.Word.{◌⋘◌}
 use Rattle.words.proofs.Word.{rotl-or, rotl-zero}
-use Rattle.words.proofs.rotate_left.Statement.{statement}
-use Rattle.words.proofs.rotate_left.Tie as tie
+use Rattle.words.proofs.rotate_left.Goals as goal
 
 -- the code's two shifts, by 0 too
 shifts : (x k : ℕ) → x < 2 ^ 32 → k < 32 → bit_or (x * 2 ^ k % 2 ^ 32) (x / 2 ^ ((32 - k) % 32)) ≡ x ⋘ k
@@ -16,8 +15,5 @@ shifts x (suc k) h b =
     let e : (32 - suc k) % 32 ≡ 32 - suc k = omega arith in
     rw e (rotl-or x (suc k) (32 - suc k) (omega arith) h)
 
-returns : tie.Need-returns
+pub returns : goal.returns
 returns c = shifts c.args.x (c.args.n % 32) c.ranges.x.fits (omega arith)
-
-pub rotate_left_spec : {M : Type 1} → statement M
-rotate_left_spec = tie.close (tie.spec (λ c. search rules) (λ c. search rules) (λ c. search rules) returns)
