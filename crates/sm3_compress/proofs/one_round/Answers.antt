@@ -3,12 +3,10 @@
 use mathlib.Core.List.{[], ◌∷◌}
 use mathlib.Core.Path.{◌≡◌}
 use Prim.Native.Nat.{ℕ, ◌+◌, ◌%◌, ◌^◌}
-use borrow.Author.Rules.{rules}
 use lib.Bits.{bit_xor}
 use Rattle.words.specs.Word.{◌⊕◌, ◌⋘◌}
 use Rattle.sm3_compress.specs.Standard.{T, FF, GG, P0, round, ABCDEFGH, SS1, SS2, TT1, TT2}
-use Rattle.sm3_compress.proofs.one_round.Statement.{statement}
-use Rattle.sm3_compress.proofs.one_round.Tie as tie
+use Rattle.sm3_compress.proofs.one_round.Goals as goal
 
 -- words found in the standard's order are the standard's
 in_order : {a12 tj turned sum ss1 ff gg tt1 tt2 b9 f19 e : ℕ} (j w w' A B C D E F G H : ℕ) → a12 ≡ A ⋘ 12 → tj ≡ T j
@@ -19,22 +17,10 @@ unfolding ABCDEFGH SS1 SS2 TT1 TT2 ◌⊕◌
 in_order j w w' A B C D E F G H of-a12 of-tj of-turned of-sum of-ss1 of-ff of-tt1 of-gg of-tt2 of-b9 of-f19 of-e =
     rw (of-e, of-f19, of-b9, of-tt2, of-gg, of-tt1, of-ff, of-ss1, of-sum, of-turned, of-tj, of-a12)
 
-returns : tie.Need-returns
+pub returns : goal.returns
 unfolding round
 returns c =
-    let tt2 = c.before.before.before in
-    let tt1 = tt2.before.before in
-    let ss1 = tt1.before.before in
-    let turned = ss1.before.before in
-    in_order _ _ _ _ _ _ _ _ _ _ _ turned.before.before.rotate_left.ensures turned.before.t.ensures
-    turned.rotate-left2.ensures ss1.before.wrapping-add3.ensures ss1.rotate-left3.ensures tt1.before.ff.ensures
-    tt1.wrapping-add4.ensures tt2.before.gg.ensures tt2.wrapping-add42.ensures
-    c.before.before.rotate-left4.ensures c.before.rotate-left5.ensures c.p0.ensures
-
-pub one_round_spec : {M : Type 1} → statement M
-one_round_spec =
-    tie.close
-    (tie.spec (λ c. search rules) (λ c. search rules) (λ c. search rules) (λ c. search rules) (λ c. search rules) (λ c. search rules) (λ c. search rules) (λ c. search rules)
-    (λ c κs. search rules) (λ c κs. search rules) (λ c κs. search rules) (λ c κs. search rules) (λ c κs. search rules) (λ c κs. search rules)
-    (λ c κs. search rules) (λ c κs. search rules) (λ c κs. search rules) (λ c κs. search rules) (λ c κs. search rules)
-    (λ c κs. search rules) returns)
+    in_order _ _ _ _ _ _ _ _ _ _ _ c.rotate_left-a12.ensures c.t.ensures
+    c.rotate_left.ensures c.wrapping_add3.ensures c.rotate_left-ss1.ensures c.ff.ensures
+    c.wrapping_add4-tt1.ensures c.gg.ensures c.wrapping_add4-tt2.ensures
+    c.rotate_left-b9.ensures c.rotate_left-f19.ensures c.p0-e_next.ensures
