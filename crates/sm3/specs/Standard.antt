@@ -1,6 +1,6 @@
 -- GB/T 32905-2016 (SM3), sections 4.1, 5.2, 5.3.1 and 5.4: initial value, padding, iteration and hash value, in the
 -- standard's names, on lists of bytes. CF is that of crate sm3_compress. Assumes nothing.
-use Rattle.std.specs.Prelude.{ℕ, zero, suc, ◌+◌, ◌-◌, ◌*◌, ◌/◌, ◌%◌, List, [], ◌∷◌, ◌++◌, length, replicate, slice_index}
+use Rattle.std.specs.Prelude.{ℕ, zero, suc, ◌-◌, ◌*◌, ◌/◌, ◌%◌, List, [], ◌∷◌, ◌++◌, length, replicate, slice_index}
 use Rattle.words.specs.Bytes.{be}
 use Rattle.words.specs.Lists.{block, join}
 use Rattle.sm3_compress.specs.Standard.{CF}
