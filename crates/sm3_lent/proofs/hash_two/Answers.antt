@@ -3,20 +3,15 @@
 use mathlib.Core.List.{List, [], ◌∷◌, ◌++◌, append-nil}
 use mathlib.Core.Path.{◌≡◌, ap, ◌∙◌}
 use Prim.Native.Nat.{ℕ}
-use borrow.Author.Rules.{rules}
 use Rattle.sm3.specs.Cutting.{joined, fed}
 use Rattle.sm3.specs.State.{fresh, finalized, hashed}
 use Rattle.sm3.proofs.Cutting.{cut}
-use Rattle.sm3_lent.proofs.hash_two.Statement.{statement}
-use Rattle.sm3_lent.proofs.hash_two.Tie as tie
+use Rattle.sm3_lent.proofs.hash_two.Goals as goal
 
 -- two parts
 cut_in_two : (a b : List ℕ) → finalized (fed fresh (a ∷ b ∷ [])) ≡ hashed (a ++ b)
 unfolding joined
 cut_in_two a b = cut (a ∷ b ∷ []) ∙ ap (λ (l : List ℕ). hashed (a ++ l)) (append-nil b)
 
-returns : tie.Need-returns
-returns c = c.finalize.ensures ∙ ap finalized c.before.fed-twice.ensures ∙ cut_in_two _ _
-
-pub hash_two_spec : {M : Type 1} → statement M
-hash_two_spec = tie.close (tie.spec (λ c κs. search rules) (λ c κs. search rules) returns)
+pub returns : goal.returns
+returns c = c.finalize.ensures ∙ ap finalized c.fed_twice-h.ensures ∙ cut_in_two _ _
