@@ -5,16 +5,12 @@ use Rattle.sm4_sbox.specs.Standard.{sbox_table}
 use Rattle.sm4_sbox.proofs.Counts.{own}
 use Rattle.sm4.specs.Standard.{decrypt}
 use Rattle.sm4.proofs.Boxes.{boxes}
-use Rattle.sm4.proofs.Sm4Cipher.decrypt_block.Statement.{statement}
-use Rattle.sm4.proofs.Sm4Cipher.decrypt_block.Tie as tie
+use Rattle.sm4.proofs.Sm4Cipher.decrypt_block.Goals as goal
 
-crypt-requires : tie.Need-crypt-requires
+pub crypt-requires : goal.crypt-requires
 unfolding own sbox_table
-crypt-requires c κs = boxes _ _ refl tt (lit≤ tt)
+crypt-requires c = boxes _ _ refl tt (lit≤ tt)
 
-returns : tie.Need-returns
+pub returns : goal.returns
 unfolding decrypt
 returns c = c.crypt.ensures
-
-pub decrypt_block_spec : {M : Type 1} → statement M
-decrypt_block_spec = tie.close (tie.spec crypt-requires returns)

@@ -3,23 +3,18 @@ use mathlib.Core.Bool.{Bool, ◌&&◌}
 use mathlib.Core.List.{List}
 use mathlib.Core.Path.{ap, ◌∙◌}
 use Prim.Native.Nat.{ℕ}
-use borrow.Author.Rules.{rules}
 use lib.Dec.{eqb}
 use Rattle.answers.specs.Answers.{Done}
 use Rattle.words.specs.Lists.{agree}
 use Rattle.sm3.specs.declared.Digest.{Digest}
 use Rattle.hmac.specs.State.{verified}
 use Rattle.hmac.proofs.Range.{verdict}
-use Rattle.hmac.proofs.HmacSm3.verify.Statement.{statement}
-use Rattle.hmac.proofs.HmacSm3.verify.Tie as tie
+use Rattle.hmac.proofs.HmacSm3.verify.Goals as goal
 
-returns : tie.Need-returns
+pub returns : goal.returns
 unfolding verified
 returns c =
-    let e : List ℕ = c.before.before.before.before.args.expected in
-    let x = c.before.before.before.finalize in
-    ap (λ (t : Bool). record { answer = x.result.answer; matches = t }) (verdict x.result e c.before.ct-eq-u8.ensures c.ct-eq.ensures)
+    let e : List ℕ = c.args.expected in
+    let x = c.finalize-computed in
+    ap (λ (t : Bool). record { answer = x.result.answer; matches = t }) (verdict x.result e c.ct_eq_u8.ensures c.ct_eq.ensures)
     ∙ ap (λ (d : Digest). record { answer = d.answer; matches = eqb d.answer Done && agree d.bytes e }) x.ensures
-
-pub verify_spec : {M : Type 1} → statement M
-verify_spec = tie.close (tie.spec (λ c κs. search rules) (λ c κs. search rules) (λ c κs. search rules) returns)

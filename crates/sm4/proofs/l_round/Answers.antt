@@ -1,0 +1,14 @@
+-- `sm4::l_round` meets its contract: what `rotate_left` ensures of its four calls. Assumes nothing.
+use Rattle.words.specs.Word.{◌⊕◌}
+use Rattle.sm4.specs.Standard.{L}
+use Rattle.sm4.proofs.l_round.Goals as goal
+
+pub returns : goal.returns
+unfolding L ◌⊕◌
+returns c =
+    rw (
+      c.rotate_left-4.ensures,
+      c.rotate_left-3.ensures,
+      c.rotate_left-2.ensures,
+      c.rotate_left.ensures,
+    )
