@@ -82,6 +82,7 @@ fn prf(secret: &[u8], label: &[u8], first: &[u8], second: &[u8], out: &mut [u8])
 }
 
 // Whether a secret and two randoms have the lengths that both derivations from them ask for.
+#[tactic(auto, unfolding(crate::specs::Sizes::inputs_right))]
 fn inputs_right(secret: &[u8], client_random: &[u8], server_random: &[u8]) -> bool
     ensures { result ≡ inputs_right secret.now client_random.now server_random.now }
 {
