@@ -4,7 +4,6 @@ use mathlib.Core.Bool.{◌&&◌}
 use mathlib.Core.List.{List}
 use mathlib.Core.Path.{◌≡◌, refl, ap, ◌∙◌}
 use Prim.Native.Nat.{ℕ}
-use borrow.Author.Rules.{rules}
 use borrow.Author.Tests.{eq-eqb, ne_eqb}
 use lib.Dec.{eqb}
 use lib.ListN.{length}
@@ -18,44 +17,29 @@ use Rattle.hmac.specs.declared.Verified.{Verified}
 use Rattle.hmac.specs.State.{started, updated, verified, mac}
 use Rattle.hmac.proofs.Mac.{uncut}
 use Rattle.probes.specs.Probes.{sized, verified_for}
-use Rattle.probes.proofs.probe_hmac_verify.Statement.{statement}
-use Rattle.probes.proofs.probe_hmac_verify.Tie as tie
+use Rattle.probes.proofs.probe_hmac_verify.Goals as goal
 
-returns : tie.Need-returns
+pub returns-then-tag-ne-DIGEST_SIZE : goal.returns-then-tag-ne-DIGEST_SIZE
 unfolding verified_for sized
-returns c =
-    let tag : List ℕ = c.before.before.before.before.args.tag.now in
-    rw (ne_eqb (length tag) 32 c.if1.true) refl
+returns-then-tag-ne-DIGEST_SIZE c =
+    let tag : List ℕ = c.args.tag.now in
+    rw (ne_eqb (length tag) 32 c.if-tag-ne-DIGEST_SIZE.true) refl
 
 -- a verdict on the MAC of the whole message
 on_the_whole : (K m e : List ℕ) → (verified (updated (started K).mac m).mac e).matches ≡ agree (mac K m).bytes e
 unfolding verified mac
 on_the_whole K m e = ap (λ (d : Digest). eqb d.answer Done && agree d.bytes e) (uncut K m)
 
-returns-2 : tie.Need-returns-2
+pub returns : goal.returns
 unfolding verified_for sized
-returns-2 c =
-    let v = c.before in
-    let a = v.before.before.before.before.before.before.before.before.args in
-    let u = v.before.update.ensures ∙ ap (λ (k : Keyed). updated k.mac a.message.now) v.before.before.new.ensures in
-    let x = v.before.before.before.array-32 in
-    let r = v.verify.ensures
+returns c =
+    let a = c.args in
+    let u = c.update-taken.ensures ∙ ap (λ (k : Keyed). updated k.mac a.message.now) c.new-keyed.ensures in
+    let x = c.array_32-expected in
+    let r = c.verify-verified.ensures
     ∙ ap (λ (k : Keyed). verified k.mac x.result) u
     ∙ ap (verified (updated (started a.key.now).mac a.message.now).mac) x.ensures in
-    rw (eq-eqb (length a.tag.now) 32 v.before.before.before.before.if1.false)
-    (bool_bit v.verify.result.matches
+    rw (eq-eqb (length a.tag.now) 32 c.if-tag-ne-DIGEST_SIZE.false)
+    (bool_bit c.verify-verified.result.matches
     ∙ ap (λ (y : Verified). bit y.matches) r
     ∙ ap bit (on_the_whole a.key.now a.message.now a.tag.now))
-
-pub probe_hmac_verify_spec : {M : Type 1} → statement M
-probe_hmac_verify_spec =
-    tie.close
-    (tie.spec
-    (λ c. search rules)
-    returns
-    (λ c κs. search rules)
-    (λ c κs. search rules)
-    (λ c κs. search rules)
-    (λ c κs. search rules)
-    (λ c. search rules)
-    returns-2)
