@@ -5,7 +5,7 @@ use mathlib.Core.List.{List, ◌++◌}
 use mathlib.Core.Path.{◌≡◌, refl, sym, ap, ◌∙◌}
 use Prim.Native.Nat.{ℕ, suc, ◌-◌}
 use native.Mathlib.Nat.{sub-zero}
-use lib.ListN.{length, take, replicate}
+use lib.ListN.{take, replicate}
 use Rattle.answers.specs.Answers.{Done, BadRecord}
 use Rattle.sm3.specs.Standard.{SM3, bytes_of}
 use Rattle.hmac.specs.Rfc2104.{HMAC}

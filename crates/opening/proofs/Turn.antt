@@ -6,7 +6,7 @@ use Prim.Native.Nat.{ℕ, suc, ◌+◌, ◌≤◌, ◌<◌}
 use native.Mathlib.Numerals.{add-one}
 use native.Mathlib.Omega.{arith}
 use borrow.Author.Tests.{lt-ltb, le-ltb}
-use lib.ListN.{length, take}
+use lib.ListN.{take}
 use Rattle.answers.specs.Answers.{Done}
 use Rattle.record.specs.Opened.{good_pad, held}
 use Rattle.record.specs.Standard.{header}
