@@ -1,10 +1,10 @@
-# What make builds goes into build/, since rt ci removes target/.
+# What make builds goes into build/, and what rt builds is left in crates/*/out/.
 RUST_SRC = ../shared/docs/src
 
 MAKEFLAGS += --no-print-directory
 CARGO = cd build/oracle && cargo build -q --release --offline --target-dir target
 
-.PHONY: all test demo header wrapper vectors lengths oracle port differential differential-long teeth bench ct fuzz edits clean help workspace native bench-packages FORCE
+.PHONY: all test demo header wrapper vectors lengths oracle port differential differential-long teeth bench ct fuzz edits clean help workspace bench-packages FORCE
 
 all: build/libborder.a
 
@@ -21,22 +21,31 @@ help:
 	@echo 'make teeth    the Rust with errors that look right: the comparison must catch all but two, which change no answer'
 	@echo 'make oracle   build the Rust, unchanged, behind the line protocol, and try it (RUST_SRC=DIR)'
 	@echo 'make bench    time the code beside the Rust, OpenSSL and libgcrypt, in one run: build/bench.tsv, docs/bench.svg'
-	@echo 'make ct       valgrind over the library, and an emulator for x86-64: no jump and no address by a secret, but for one test (docs/BENCHMARKS.md)'
+	@echo 'make ct       valgrind over the library: no jump and no address by a secret, but for one test (docs/BENCHMARKS.md)'
 	@echo 'make fuzz     random calls between guard pages, held to a model, for a minute (SECONDS=3600 SEED=1)'
-	@echo 'make edits    docs/EDITS.md: where each edit is refused, from the logs of rt ci'
-	@echo 'make clean    remove build/ and target/'
+	@echo 'make edits    docs/EDITS.md: where each edit is refused, from what rt must-fail says'
+	@echo 'make clean    remove build/; the proofs stay in crates/*/out/'
 
 # The gate, whatever make was told: its last line is the last of the run.
 test:
 	@.ci/run
 
-build/libborder.a: FORCE
-	rt staticlib border
-	@mkdir -p build
-	@cmp -s target/staticlib/libborder.a $@ || cp target/staticlib/libborder.a $@
+# The archive of a static library, proved and compiled by the kit.
+archive = (cd crates/$(1) && rt lib) && mkdir -p $(dir $@) && { cmp -s crates/$(1)/out/lib$(1).a $@ || cp crates/$(1)/out/lib$(1).a $@; }
 
-# After rt ci, whose logs it reads; the gate compares its list with the tree.
+build/libborder.a build/native/libborder.a build/timing/libborder.a: FORCE
+	$(call archive,border_c)
+
+build/native/libprobes.a: FORCE
+	$(call archive,probes)
+
+build/timing/libsm4_timing.a: FORCE
+	$(call archive,sm4_timing)
+
+# The gate compares this list with the tree.
 edits:
+	@mkdir -p build
+	rt must-fail >build/must-fail.log
 	tools/edits
 
 # C and Rust are told what the source says.
@@ -44,24 +53,20 @@ header:
 	tools/header_check_test
 	tools/header_check
 
-demo: native
+demo: build/native/libborder.a
 	$(CC) -std=c99 -Wall -Wextra -O2 -Iinclude examples/demo.c build/native/libborder.a -o build/demo
 	build/demo
 
-wrapper: native
+wrapper: build/native/libborder.a
 	folder="$$PWD/build/native" && cd rust && NOUSTREL_LIB="$$folder" cargo test -q --offline --target-dir ../build/rust
 
 PROGRAMS = vectors hmac_vectors sm4_vectors sm4_published key_schedule_vectors record_vectors step_vectors opening_vectors replay
 vectors:
-	rt check $(PROGRAMS)
-	@mkdir -p build
-	@for program in $(PROGRAMS); do cp target/bin/$$program build/ && echo "== $$program" && tools/run_program $$program || exit 1; done
+	@for program in $(PROGRAMS); do tools/program $$program && echo "== $$program" && tools/run_program $$program || exit 1; done
 
 # The program of the scope's worked example, and its edges.
 lengths:
-	rt check lengths
-	@mkdir -p build
-	cp target/bin/lengths build/
+	tools/program lengths
 	tools/run_program lengths | cmp - crates/lengths/stdout
 	tools/lengths_test
 
@@ -72,17 +77,8 @@ build/noustrel-oracle: workspace
 	$(CARGO) -p noustrel-oracle
 	cp build/oracle/target/release/noustrel-oracle $@
 
-# The libraries for the machine at hand: elsewhere than on x86-64 the same LLVM modules, compiled for it.
-NATIVE = border
-native:
-	@mkdir -p build/native
-	@for crate in $(NATIVE); do \
-	    if [ "$$(uname -m)" = x86_64 ]; then rt staticlib $$crate && cp target/staticlib/lib$$crate.a build/native/; \
-	    else bench/native $$crate build/native/lib$$crate.a; fi || exit 1; done
-
 # The port behind the line protocol, and the comparison with the Rust and the model.
-port: NATIVE = border probes
-port: native
+port: build/native/libborder.a build/native/libprobes.a
 	$(CC) -O2 -Wall -Wextra -Iinclude differential/port.c build/native/libborder.a build/native/libprobes.a -o build/port
 
 differential: oracle port
@@ -97,12 +93,8 @@ teeth: port
 
 # OpenSSL and libgcrypt are timed beside ours, and SM4 also beside a scan in plain C, by two compilers.
 BESIDE = build/timing/beside.o build/timing/thread.o build/timing/scan-gcc.o build/timing/scan-clang.o
-KIT_CLANG = $$(dirname "$$(dirname "$$(rt doc)")")/on/$$(uname -m)/toolchain/bin/clang
-bench: bench-packages workspace
-	@mkdir -p build/timing
-	@for crate in border sm4_timing; do \
-	    if [ "$$(uname -m)" = x86_64 ]; then rt staticlib $$crate && cp target/staticlib/lib$$crate.a build/timing/; \
-	    else bench/native $$crate build/timing/lib$$crate.a timing; fi || exit 1; done
+KIT_CLANG = $$(dirname "$$(rt doc)")/toolchain/bin/clang
+bench: bench-packages workspace build/timing/libborder.a build/timing/libsm4_timing.a
 	@$(CC) -O2 -Wall -Wextra -c bench/beside.c -o build/timing/beside.o
 	@$(CC) -O2 -Wall -Wextra -c bench/thread.c -o build/timing/thread.o
 	@$(CC) -O3 -DSCAN=gcc -c bench/scan.c -o build/timing/scan-gcc.o
@@ -118,14 +110,13 @@ bench-packages:
 	    { echo "make bench: no $$header: install libssl-dev and libgcrypt20-dev (Debian's names)" >&2; exit 1; }; done
 
 # What is claimed of the machine code, for this compiler's output: docs/BENCHMARKS.md.
-ct: NATIVE = border probes
-ct: native
+ct: build/native/libborder.a build/native/libprobes.a
 	ct/run build
 
 # Random calls at the C border, each span between guard pages; first the faults that must be caught.
 SECONDS = 60
 SEED = 1
-fuzz: native
+fuzz: build/native/libborder.a
 	@mkdir -p build/fuzz
 	$(CC) -std=c99 -O2 -g -Wall -Wextra -Iinclude fuzz/*.c build/native/libborder.a -lcrypto -o build/fuzz/driver
 	build/fuzz/driver teeth
@@ -135,6 +126,6 @@ workspace:
 	oracle/prepare $(RUST_SRC) build
 
 clean:
-	rm -rf build target
+	rm -rf build
 
 FORCE:

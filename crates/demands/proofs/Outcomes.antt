@@ -1,6 +1,6 @@
 -- Each public contract of the library has one outcome: a bare equation by one law, a promise by the law beside it. Made
 -- by tools/calls. Assumes nothing.
-use mathlib.Core.Path.{◌≡◌, sym, ◌∙◌}
+use Rattle.std.proofs.Common.{◌≡◌, sym, ◌∙◌}
 use Rattle.words.proofs.OneOutcome.{Copied-one_outcome, Filled-one_outcome}
 use Rattle.sm3_lent.proofs.OneOutcome.{Started-one_outcome, Taken-one_outcome, Digested-one_outcome}
 use Rattle.cbc.proofs.OneOutcome.{Enciphered-one_outcome, Deciphered-one_outcome}
@@ -25,101 +25,99 @@ equation-one_outcome x r s p q = p ∙ sym q
 pub outcomes : Outcomes
 outcomes =
     record {
-      words::rotate_left = λ x n. equation-one_outcome _;
-      words::wrapping_add3 = λ x y z. equation-one_outcome _;
-      words::wrapping_add4 = λ w x y z. equation-one_outcome _;
-      words::div_ceil = λ a b. equation-one_outcome _;
-      words::copy_at = λ out at src _ _. Copied-one_outcome;
-      words::fill_at = λ out at count byte _ _. Filled-one_outcome;
-      masks::ct_eq_u8 = λ a b. equation-one_outcome _;
-      masks::ct_eq_usize = λ a b. equation-one_outcome _;
-      masks::ct_lt_usize = λ a b. equation-one_outcome _;
-      masks::ct_is_zero_usize = λ d. equation-one_outcome _;
-      masks::select_u8 = λ a b choice. equation-one_outcome _;
-      masks::select_u32 = λ a b choice. equation-one_outcome _;
-      masks::select_usize = λ a b choice. equation-one_outcome _;
-      big_endian::u16_from_be_bytes = λ b. equation-one_outcome _;
-      big_endian::u32_from_be_bytes = λ b. equation-one_outcome _;
-      big_endian::u64_from_be_bytes = λ b. equation-one_outcome _;
-      big_endian::u16_to_be_bytes = λ x. equation-one_outcome _;
-      big_endian::u32_to_be_bytes = λ x. equation-one_outcome _;
-      big_endian::u64_to_be_bytes = λ x. equation-one_outcome _;
-      sm3_compress::compress = λ state block. equation-one_outcome _;
-      sm3::digest_of = λ v. equation-one_outcome _;
+      «words::rotate_left» = λ x n. equation-one_outcome _;
+      «words::wrapping_add3» = λ x y z. equation-one_outcome _;
+      «words::wrapping_add4» = λ w x y z. equation-one_outcome _;
+      «words::div_ceil» = λ a b. equation-one_outcome _;
+      «words::copy_at» = λ out at src _ _. Copied-one_outcome;
+      «words::fill_at» = λ out at count byte _ _. Filled-one_outcome;
+      «masks::ct_eq_u8» = λ a b. equation-one_outcome _;
+      «masks::ct_eq_usize» = λ a b. equation-one_outcome _;
+      «masks::ct_lt_usize» = λ a b. equation-one_outcome _;
+      «masks::ct_is_zero_usize» = λ d. equation-one_outcome _;
+      «masks::select_u8» = λ a b choice. equation-one_outcome _;
+      «masks::select_u32» = λ a b choice. equation-one_outcome _;
+      «masks::select_usize» = λ a b choice. equation-one_outcome _;
+      «big_endian::u16_from_be_bytes» = λ b. equation-one_outcome _;
+      «big_endian::u32_from_be_bytes» = λ b. equation-one_outcome _;
+      «big_endian::u64_from_be_bytes» = λ b. equation-one_outcome _;
+      «big_endian::u16_to_be_bytes» = λ x. equation-one_outcome _;
+      «big_endian::u32_to_be_bytes» = λ x. equation-one_outcome _;
+      «big_endian::u64_to_be_bytes» = λ x. equation-one_outcome _;
+      «sm3_compress::compress» = λ state block. equation-one_outcome _;
+      «sm3::digest_of» = λ v. equation-one_outcome _;
       «sm3::Sm3::new» = equation-one_outcome _;
       «sm3::Sm3::update» = λ self «data». equation-one_outcome _;
       «sm3::Sm3::finalize» = λ self. equation-one_outcome _;
       «sm3::hash» = λ message. equation-one_outcome _;
-      sm3_lent::start = Started-one_outcome;
-      sm3_lent::update = λ h «data». Taken-one_outcome h «data»;
-      sm3_lent::finish = λ h digest. Digested-one_outcome h digest;
-      sm3_lent::hash_two = λ first second. equation-one_outcome _;
-      sm4_sbox::sbox_ct = λ x. equation-one_outcome _;
+      «sm3_lent::start» = Started-one_outcome;
+      «sm3_lent::update» = λ h «data». Taken-one_outcome h «data»;
+      «sm3_lent::finish» = λ h digest. Digested-one_outcome h digest;
+      «sm3_lent::hash_two» = λ first second. equation-one_outcome _;
+      «sm4_sbox::sbox_ct» = λ x. equation-one_outcome _;
       «sm4::Sm4Cipher::new» = λ key. equation-one_outcome _;
-      sm4::Sm4Cipher::encrypt_block = λ self block. equation-one_outcome _;
-      sm4::Sm4Cipher::decrypt_block = λ self block. equation-one_outcome _;
-      cbc::encipher_cbc = λ cipher iv body _ _. Enciphered-one_outcome;
-      cbc::decipher_block_cbc = λ cipher «record» k out _ _. Deciphered-one_outcome;
-      hmac::xor_pad = λ block pad. equation-one_outcome _;
-      hmac::ct_eq = λ a b. equation-one_outcome _;
+      «sm4::Sm4Cipher::encrypt_block» = λ self block. equation-one_outcome _;
+      «sm4::Sm4Cipher::decrypt_block» = λ self block. equation-one_outcome _;
+      «cbc::encipher_cbc» = λ cipher iv body _ _. Enciphered-one_outcome;
+      «cbc::decipher_block_cbc» = λ cipher «record» k out _ _. Deciphered-one_outcome;
+      «hmac::xor_pad» = λ block pad. equation-one_outcome _;
+      «hmac::ct_eq» = λ a b. equation-one_outcome _;
       «hmac::HmacSm3::new» = λ key. equation-one_outcome _;
       «hmac::HmacSm3::update» = λ self «data». equation-one_outcome _;
       «hmac::HmacSm3::finalize» = λ self. equation-one_outcome _;
       «hmac::HmacSm3::verify» = λ self expected. equation-one_outcome _;
-      hmac::hmac_sm3 = λ key message. equation-one_outcome _;
-      key_schedule::derive_master_secret =
+      «hmac::hmac_sm3» = λ key message. equation-one_outcome _;
+      «key_schedule::derive_master_secret» =
           λ pre_master client_random server_random out _ _ _ _. MasterSecret-one_outcome;
-      key_schedule::derive_key_block =
-          λ master_secret client_random server_random out _ _ _ _. KeyBlock-one_outcome;
-      key_schedule::finished_verify_data = λ master_secret role transcript_hash out _ _ _ _. Finished-one_outcome;
-      record::RecordKeysCbc::client_half = λ key_block. equation-one_outcome _;
-      record::RecordKeysCbc::server_half = λ key_block. equation-one_outcome _;
-      record::RecordKeysCbc::from_key_block = λ role key_block. equation-one_outcome _;
-      record::record_header = λ seq content_type version len. equation-one_outcome _;
-      record::protect_cbc = λ keys seq content_type version iv plaintext out _ _ _ _. Protected-one_outcome;
-      sizes::size_answer = λ record_len. equation-one_outcome _;
+      «key_schedule::derive_key_block» = λ master_secret client_random server_random out _ _ _ _. KeyBlock-one_outcome;
+      «key_schedule::finished_verify_data» = λ master_secret role transcript_hash out _ _ _ _. Finished-one_outcome;
+      «record::RecordKeysCbc::client_half» = λ key_block. equation-one_outcome _;
+      «record::RecordKeysCbc::server_half» = λ key_block. equation-one_outcome _;
+      «record::RecordKeysCbc::from_key_block» = λ role key_block. equation-one_outcome _;
+      «record::record_header» = λ seq content_type version len. equation-one_outcome _;
+      «record::protect_cbc» = λ keys seq content_type version iv plaintext out _ _ _ _. Protected-one_outcome;
+      «sizes::size_answer» = λ record_len. equation-one_outcome _;
       «sizes::allowed» = λ n. equation-one_outcome _;
-      sizes::mac_steps = λ n. equation-one_outcome _;
-      sizes::total_steps = λ n. equation-one_outcome _;
-      padding::check_tls_padding_ct = λ body. equation-one_outcome _;
-      mac_blocks::inner_key = λ mac_key. equation-one_outcome _;
-      mac_blocks::inner_block = λ so_far header «data» plaintext_len b. equation-one_outcome _;
-      mac_blocks::outer_key = λ mac_key. equation-one_outcome _;
-      mac_blocks::outer_digest = λ words kept. equation-one_outcome _;
-      verdict::extract_mac_ct = λ body plaintext_len. equation-one_outcome _;
-      verdict::verdict_ct = λ pad_ok received computed held. equation-one_outcome _;
-      verdict::clear_from_ct = λ body keep _ _. Cleared-one_outcome;
-      steps::start_cbc = λ keys seq content_type version record_len room. equation-one_outcome _;
-      steps::step_cbc = λ opening «record» out _ _ _ _. Step-one_outcome;
-      opening::deprotect_cbc = λ keys seq content_type version «record» out _ _ _ _. Deprotected-one_outcome;
-      border::noustrel_sm3 = λ message digest _ _ _ _. Hashed-one_outcome;
-      border::noustrel_hmac_sm3 = λ key message mac _ _ _ _. Maced-one_outcome;
-      border::noustrel_seal =
+      «sizes::mac_steps» = λ n. equation-one_outcome _;
+      «sizes::total_steps» = λ n. equation-one_outcome _;
+      «padding::check_tls_padding_ct» = λ body. equation-one_outcome _;
+      «mac_blocks::inner_key» = λ mac_key. equation-one_outcome _;
+      «mac_blocks::inner_block» = λ so_far header «data» plaintext_len b. equation-one_outcome _;
+      «mac_blocks::outer_key» = λ mac_key. equation-one_outcome _;
+      «mac_blocks::outer_digest» = λ words kept. equation-one_outcome _;
+      «verdict::extract_mac_ct» = λ body plaintext_len. equation-one_outcome _;
+      «verdict::verdict_ct» = λ pad_ok received computed held. equation-one_outcome _;
+      «verdict::clear_from_ct» = λ body keep _ _. Cleared-one_outcome;
+      «steps::start_cbc» = λ keys seq content_type version record_len room. equation-one_outcome _;
+      «steps::step_cbc» = λ opening «record» out _ _ _ _. Step-one_outcome;
+      «opening::deprotect_cbc» = λ keys seq content_type version «record» out _ _ _ _. Deprotected-one_outcome;
+      «border::noustrel_sm3» = λ message digest _ _ _ _. Hashed-one_outcome;
+      «border::noustrel_hmac_sm3» = λ key message mac _ _ _ _. Maced-one_outcome;
+      «border::noustrel_seal» =
           λ mac_key enc_key number content_type version iv text out _ _ _ _ _ _. SealedFor-one_outcome;
-      border::noustrel_open =
+      «border::noustrel_open» =
           λ mac_key enc_key number content_type version «record» out _ _ _ _ _ _ _ _. OpenedFor-one_outcome;
-      border::noustrel_sm4_encrypt_block = λ key block out _ _ _ _. EncipheredFor-one_outcome;
-      border::noustrel_sm4_decrypt_block = λ key block out _ _ _ _. DecipheredFor-one_outcome;
-      border::noustrel_master_secret =
+      «border::noustrel_sm4_encrypt_block» = λ key block out _ _ _ _. EncipheredFor-one_outcome;
+      «border::noustrel_sm4_decrypt_block» = λ key block out _ _ _ _. DecipheredFor-one_outcome;
+      «border::noustrel_master_secret» =
           λ pre_master client_random server_random out _ _ _ _. MasterSecretFor-one_outcome;
-      border::noustrel_key_block =
-          λ master_secret client_random server_random out _ _ _ _. KeyBlockFor-one_outcome;
-      border::noustrel_key_halves =
+      «border::noustrel_key_block» = λ master_secret client_random server_random out _ _ _ _. KeyBlockFor-one_outcome;
+      «border::noustrel_key_halves» =
           λ key_block client_mac_key server_mac_key client_enc_key server_enc_key _ _ _ _ _ _ _ _ _ _. KeyHalvesFor-one_outcome;
-      border::noustrel_finished = λ master_secret role transcript_hash out _ _ _ _. FinishedFor-one_outcome;
-      border::noustrel_sm3_start = λ _ _. StartedFor-one_outcome;
-      border::noustrel_sm3_update = λ h «data» _ _ _ _. TakenFor-one_outcome;
-      border::noustrel_sm3_finish = λ h digest _ _ _ _. DigestedFor-one_outcome;
-      lines::start_line = equation-one_outcome _;
-      lines::is_hex = λ byte. equation-one_outcome _;
-      lines::all_hex = λ part. equation-one_outcome _;
-      lines::line_end = λ input. equation-one_outcome _;
-      lines::take_part = λ line part. equation-one_outcome _;
+      «border::noustrel_finished» = λ master_secret role transcript_hash out _ _ _ _. FinishedFor-one_outcome;
+      «border::noustrel_sm3_start» = λ _ _. StartedFor-one_outcome;
+      «border::noustrel_sm3_update» = λ h «data» _ _ _ _. TakenFor-one_outcome;
+      «border::noustrel_sm3_finish» = λ h digest _ _ _ _. DigestedFor-one_outcome;
+      «lines::start_line» = equation-one_outcome _;
+      «lines::is_hex» = λ byte. equation-one_outcome _;
+      «lines::all_hex» = λ part. equation-one_outcome _;
+      «lines::line_end» = λ input. equation-one_outcome _;
+      «lines::take_part» = λ line part. equation-one_outcome _;
       «lines::advance» = λ line input. equation-one_outcome _;
-      lines::is_begun = λ line. equation-one_outcome _;
+      «lines::is_begun» = λ line. equation-one_outcome _;
       «lines::judge» = λ line max_line. equation-one_outcome _;
-      lines::judge_line = λ line. equation-one_outcome _;
-      lines::put_judged = λ judged out at _ _ _ _. JudgedPut-one_outcome;
+      «lines::judge_line» = λ line. equation-one_outcome _;
+      «lines::put_judged» = λ judged out at _ _ _ _. JudgedPut-one_outcome;
       «lines::tell» = λ line chunk out _ _ _ _. ChunkTold-one_outcome;
-      lines::tell_last = λ line out _ _ _ _. LastTold-one_outcome;
+      «lines::tell_last» = λ line out _ _ _ _. LastTold-one_outcome;
     }
