@@ -3,11 +3,12 @@
 // The buffers stay as they are, however long a line or the input is.
 #![tactic(auto)]
 
-ghost use Rattle.std.specs.Prelude.{true, false, ◌≡◌, ◌≤◌, length};
+ghost use Rattle.std.specs.Prelude.{true, false, ◌≡◌, ◌≤◌, length, IfOk};
 ghost use Rattle.lines.specs.Reading.{fresh, begun};
 
-use libc::{STDIN_FILENO, STDOUT_FILENO};
 use lines::{Line, MOST_TEXT};
+use std::io;
+use std::io::Read as _;
 
 // The most bytes of one read, and room for all that can be told of them.
 const CHUNK: usize = 4096;
@@ -22,42 +23,41 @@ struct Read {
 }
 
 // Prints the lines that end in a chunk, and returns the one that it leaves begun.
-fn pass(line: Line, chunk: &[u8]) -> Line
+fn pass(rt: &impl Print, line: Line, chunk: &[u8]) -> io::Result<Line>
     requires { length chunk.now ≤ 4096 }
-    ensures { result ≡ begun line chunk.now }
+    ensures { IfOk result (λ left. left ≡ begun line chunk.now) }
 {
     let mut out = [0u8; ROOM];
     let told = lines::tell(line, chunk, &mut out);
     let n = told.length;
-    io::write_all(STDOUT_FILENO, &out[..n]);
-    told.line
+    rt.write_all(&out[..n])?;
+    Ok(told.line)
 }
 
 // Prints the line that is begun where the input ends, and returns a fresh one.
-fn finish(line: Line) -> Line
-    ensures { result ≡ fresh }
+fn finish(rt: &impl Print, line: Line) -> io::Result<Line>
+    ensures { IfOk result (λ left. left ≡ fresh) }
 {
     let mut out = [0u8; MOST_TEXT];
     let told = lines::tell_last(line, &mut out);
     let n = told.length;
-    io::write_all(STDOUT_FILENO, &out[..n]);
-    told.line
+    rt.write_all(&out[..n])?;
+    Ok(told.line)
 }
 
 // Reads once. A read that fails ends the input, as one that finds nothing does, and the line begun stays.
-fn read_some(line: Line) -> Read
-    ensures { result.more ≡ false → result.line ≡ line }
+fn read_some(rt: &(impl Input + Print), line: Line) -> io::Result<Read>
+    ensures { IfOk result (λ read. read.more ≡ false → read.line ≡ line) }
 {
-    let mut buffer = io::buffer();
-    let got = libc::read(STDIN_FILENO, &mut buffer);
-    if got <= 0 {
-        return Read { more: false, line };
+    let mut buffer = [0u8; 4096];
+    let n = rt.reader().read(&mut buffer).unwrap_or(0);
+    if n == 0 {
+        return Ok(Read { more: false, line });
     }
-    let n = io::count(got, &buffer);
-    Read {
+    Ok(Read {
         more: true,
-        line: pass(line, &buffer[..n]),
-    }
+        line: pass(rt, line, &buffer[..n])?,
+    })
 }
 
 // The line that is begun where the reading ends, after how many reads, and whether the input still goes on.
@@ -70,31 +70,32 @@ struct Ended {
 
 // Reads to the end of the input. A proved loop has to end, and nothing says that an input does: so it counts its reads, up to
 // a number that no run uses up, and stops before the end of the input only there.
-fn read_all() -> Ended
-    ensures { result.more ≡ true → result.reads ≡ 18446744073709551615 }
+fn read_all(rt: &(impl Input + Print)) -> io::Result<Ended>
+    ensures { IfOk result (λ ended. ended.more ≡ true → ended.reads ≡ 18446744073709551615) }
 {
     let mut line = lines::start_line();
     let mut reads: u64 = 0;
     while reads < u64::MAX {
-        let read = read_some(line);
+        let read = read_some(rt, line)?;
         line = read.line;
         reads += 1;
         if !read.more {
-            return Ended {
+            return Ok(Ended {
                 line,
                 reads,
                 more: false,
-            };
+            });
         }
     }
-    Ended {
+    Ok(Ended {
         line,
         reads,
         more: true,
-    }
+    })
 }
 
-fn main() {
-    let ended = read_all();
-    finish(ended.line);
+fn main(rt: HostRuntime) -> io::Result<()> {
+    let ended = read_all(&rt)?;
+    finish(&rt, ended.line)?;
+    Ok(())
 }

@@ -2,33 +2,33 @@
 // a contract, since none can say what is written to a file: the gate compares each program's output with its file stdout.
 #![tactic(auto)]
 
-ghost use Rattle.std.specs.Prelude.{◌≡◌};
+ghost use Rattle.std.specs.Prelude.{◌≡◌, IfOk};
 ghost use Rattle.programs.specs.Promise.{Spread};
 
-use libc::STDOUT_FILENO;
+use std::io;
 
 // s as it stands.
-pub fn text(s: &[u8]) -> ()
-    ensures { result ≡ tt }
+pub fn text(rt: &impl Print, s: &[u8]) -> io::Result<()>
+    ensures { IfOk result (λ v. v ≡ tt) }
 {
-    io::write_all(STDOUT_FILENO, s);
+    rt.write_all(s)
 }
 
 // n in decimal, behind a space or the label's dash.
-pub fn number(before: &[u8], n: u64) -> ()
-    ensures { result ≡ tt }
+pub fn number(rt: &impl Print, before: &[u8], n: u64) -> io::Result<()>
+    ensures { IfOk result (λ v. v ≡ tt) }
 {
-    text(before);
-    io::print_decimal(STDOUT_FILENO, n);
+    text(rt, before)?;
+    print!(rt; "{n}")
 }
 
 // A label with two numbers.
-pub fn label(name: &[u8], a: usize, b: usize) -> ()
-    ensures { result ≡ tt }
+pub fn label(rt: &impl Print, name: &[u8], a: usize, b: usize) -> io::Result<()>
+    ensures { IfOk result (λ v. v ≡ tt) }
 {
-    text(name);
-    number(b"-", a as u64);
-    number(b"-", b as u64);
+    text(rt, name)?;
+    number(rt, b"-", a as u64)?;
+    number(rt, b"-", b as u64)
 }
 
 // A byte as a number: a call asks of an element only that it is there.
@@ -37,22 +37,23 @@ fn wide(x: u8) -> u64 {
 }
 
 // A space, and the bytes in hexadecimal.
-pub fn hex(bytes: &[u8]) -> ()
-    ensures { result ≡ tt }
+pub fn hex(rt: &impl Print, bytes: &[u8]) -> io::Result<()>
+    ensures { IfOk result (λ v. v ≡ tt) }
 {
-    text(b" ");
+    text(rt, b" ")?;
     for i in 0..bytes.len() {
-        io::print_hex(STDOUT_FILENO, wide(bytes[i]), 2);
+        print!(rt; "{:02x}", wide(bytes[i]))?;
     }
+    Ok(())
 }
 
 // The rest of a line: what is left of its label, a space, and the bytes in hexadecimal.
-pub fn line(name: &[u8], bytes: &[u8]) -> ()
-    ensures { result ≡ tt }
+pub fn line(rt: &impl Print, name: &[u8], bytes: &[u8]) -> io::Result<()>
+    ensures { IfOk result (λ v. v ≡ tt) }
 {
-    text(name);
-    hex(bytes);
-    text(b"\n");
+    text(rt, name)?;
+    hex(rt, bytes)?;
+    text(rt, b"\n")
 }
 
 // Byte i of out is made first + step i, modulo 256.

@@ -3,34 +3,37 @@
 // over 4,096 characters or of another command is answered `bad`.
 #![tactic(auto)]
 
-ghost use Rattle.io.specs.Counts.{IsPrefixLen};
+ghost use Rattle.std.specs.Prelude.{◌≡◌, ◌≤◌, length, take};
 
 use hmac::HmacSm3;
-use libc::STDOUT_FILENO;
 use programs::text;
 use protocol::{BYTES, NUMBER, SIDE, all_bytes, count, is_word};
 use record::RecordKeysCbc;
 use sm3::Sm3;
+use std::io;
+use std::io::Read as _;
 
 fn wide(x: u8) -> u64 {
     x as u64
 }
 
 // The bytes in hexadecimal, `-` where there are none.
-fn hex(bytes: &[u8]) {
+fn hex(rt: &impl Print, bytes: &[u8]) -> io::Result<()> {
     if bytes.len() == 0 {
-        text(b"-");
+        text(rt, b"-")?;
     }
     for i in 0..bytes.len() {
-        io::print_hex(STDOUT_FILENO, wide(bytes[i]), 2);
+        print!(rt; "{:02x}", wide(bytes[i]))?;
     }
+    Ok(())
 }
 
 // ---- fields
 
 // The bytes of field k into the front of out, and how many they are.
 fn decode(line: &[u8], k: usize, out: &mut [u8]) -> usize
-    ensures { IsPrefixLen result out.new }
+    ensures bound { result ≤ length out.new }
+    ensures prefix { result ≡ length (take result out.new) }
 {
     protocol::decode(line, k, out)
 }
@@ -83,26 +86,27 @@ fn version(line: &[u8]) -> [u8; 2] {
 }
 
 // The Rust says `none` for 1 and for 3 to 6; any other number stands as it is.
-fn refused(answer: u8) {
+fn refused(rt: &impl Print, answer: u8) -> io::Result<()> {
     if answer == answers::NO_ROOM || answers::BAD_RECORD < answer {
-        io::print_decimal(STDOUT_FILENO, wide(answer));
+        print!(rt; "{answer}")
     } else {
-        text(b"none");
+        text(rt, b"none")
     }
 }
 
 // The answer and the first length bytes of out, none with a refusal.
-fn report(answer: u8, length: usize, out: &[u8]) {
+fn report(rt: &impl Print, answer: u8, length: usize, out: &[u8]) -> io::Result<()> {
     if answer != answers::DONE {
-        refused(answer);
-        text(b" -");
+        refused(rt, answer)?;
+        text(rt, b" -")?;
     } else if length <= out.len() {
-        text(b"0 ");
-        hex(&out[..length]);
+        text(rt, b"0 ")?;
+        hex(rt, &out[..length])?;
     }
+    Ok(())
 }
 
-fn seal(line: &[u8]) {
+fn seal(rt: &impl Print, line: &[u8]) -> io::Result<()> {
     let mut plaintext = [0u8; 2048];
     let mut out = [0u8; 2112];
     let n = decode(line, 7, &mut plaintext);
@@ -115,12 +119,12 @@ fn seal(line: &[u8]) {
         &plaintext[..n],
         &mut out,
     );
-    report(s.answer, s.length, &out);
-    text(b"\n");
+    report(rt, s.answer, s.length, &out)?;
+    text(rt, b"\n")
 }
 
 // The Rust has no steps: where their number stands it prints a question mark.
-fn open(line: &[u8]) {
+fn open(rt: &impl Print, line: &[u8]) -> io::Result<()> {
     let mut r = [0u8; 2048];
     let mut out = [0u8; 2048];
     let n = decode(line, 6, &mut r);
@@ -132,22 +136,22 @@ fn open(line: &[u8]) {
         &r[..n],
         &mut out,
     );
-    report(o.answer, o.length, &out);
-    text(b" ?\n");
+    report(rt, o.answer, o.length, &out)?;
+    text(rt, b" ?\n")
 }
 
 // ---- hash and MAC
 
-fn digest(d: sm3::Digest) {
+fn digest(rt: &impl Print, d: sm3::Digest) -> io::Result<()> {
     let bytes = d.bytes;
-    hex(&bytes);
-    text(b"\n");
+    hex(rt, &bytes)?;
+    text(rt, b"\n")
 }
 
-fn hash_whole(line: &[u8]) {
+fn hash_whole(rt: &impl Print, line: &[u8]) -> io::Result<()> {
     let mut message = [0u8; 2048];
     let n = decode(line, 1, &mut message);
-    digest(sm3::hash(&message[..n]));
+    digest(rt, sm3::hash(&message[..n]))
 }
 
 // The state that has taken in field k too.
@@ -168,27 +172,27 @@ fn hash_parts(line: &[u8]) -> Sm3 {
 }
 
 // Words, buffer, fill and total.
-fn state(h: Sm3) {
+fn state(rt: &impl Print, h: Sm3) -> io::Result<()> {
     let words = h.state;
     let buffer = h.buffer;
     for i in 0..8 {
-        io::print_hex(STDOUT_FILENO, words[i] as u64, 8);
+        print!(rt; "{:08x}", words[i] as u64)?;
     }
-    text(b" ");
-    hex(&buffer);
-    text(b" ");
-    io::print_decimal(STDOUT_FILENO, h.buffer_len as u64);
-    text(b" ");
-    io::print_decimal(STDOUT_FILENO, h.total_len);
-    text(b"\n");
+    text(rt, b" ")?;
+    hex(rt, &buffer)?;
+    text(rt, b" ")?;
+    print!(rt; "{}", h.buffer_len as u64)?;
+    text(rt, b" ")?;
+    print!(rt; "{}", h.total_len)?;
+    text(rt, b"\n")
 }
 
-fn mac_whole(line: &[u8]) {
+fn mac_whole(rt: &impl Print, line: &[u8]) -> io::Result<()> {
     let mut key = [0u8; 2048];
     let mut message = [0u8; 2048];
     let k = decode(line, 1, &mut key);
     let n = decode(line, 2, &mut message);
-    digest(hmac::hmac_sm3(&key[..k], &message[..n]));
+    digest(rt, hmac::hmac_sm3(&key[..k], &message[..n]))
 }
 
 fn keyed(line: &[u8]) -> HmacSm3 {
@@ -216,63 +220,63 @@ fn mac_parts(line: &[u8]) -> HmacSm3 {
 
 // ---- cipher and key schedule
 
-fn encrypt(line: &[u8]) {
+fn encrypt(rt: &impl Print, line: &[u8]) -> io::Result<()> {
     let cipher = sm4::Sm4Cipher::new(array_16(line, 1));
     let out = cipher.encrypt_block(array_16(line, 2));
-    derived(answers::DONE, &out);
+    derived(rt, answers::DONE, &out)
 }
 
-fn decrypt(line: &[u8]) {
+fn decrypt(rt: &impl Print, line: &[u8]) -> io::Result<()> {
     let cipher = sm4::Sm4Cipher::new(array_16(line, 1));
     let out = cipher.decrypt_block(array_16(line, 2));
-    derived(answers::DONE, &out);
+    derived(rt, answers::DONE, &out)
 }
 
 // The bytes, or the number of a refusal.
-fn derived(answer: u8, out: &[u8]) {
+fn derived(rt: &impl Print, answer: u8, out: &[u8]) -> io::Result<()> {
     if answer == answers::DONE {
-        hex(out);
+        hex(rt, out)?;
     } else {
-        io::print_decimal(STDOUT_FILENO, wide(answer));
+        print!(rt; "{answer}")?;
     }
-    text(b"\n");
+    text(rt, b"\n")
 }
 
-fn master(line: &[u8]) {
+fn master(rt: &impl Print, line: &[u8]) -> io::Result<()> {
     let mut out = [0u8; 48];
     let secret = array_48(line, 1);
     let client = array_32(line, 2);
     let server = array_32(line, 3);
     let a = key_schedule::derive_master_secret(&secret, &client, &server, &mut out);
-    derived(a, &out);
+    derived(rt, a, &out)
 }
 
-fn key_block_into(line: &[u8], out: &mut [u8]) {
+fn key_block_into(rt: &impl Print, line: &[u8], out: &mut [u8]) -> io::Result<()> {
     let secret = array_48(line, 1);
     let client = array_32(line, 2);
     let server = array_32(line, 3);
     let a = key_schedule::derive_key_block(&secret, &client, &server, out);
-    derived(a, out);
+    derived(rt, a, out)
 }
 
 // Of more than 1,024 bytes it is the Rust's alone, and bad here.
-fn key_block(line: &[u8]) {
+fn key_block(rt: &impl Print, line: &[u8]) -> io::Result<()> {
     let mut out = [0u8; 1024];
     let len = protocol::number_at(line, 4);
     if len.value <= 1024 {
         let n = len.value as usize;
-        key_block_into(line, &mut out[..n]);
+        key_block_into(rt, line, &mut out[..n])
     } else {
-        text(b"bad\n");
+        text(rt, b"bad\n")
     }
 }
 
-fn finished(line: &[u8]) {
+fn finished(rt: &impl Print, line: &[u8]) -> io::Result<()> {
     let mut out = [0u8; 12];
     let secret = array_48(line, 1);
     let transcript = array_32(line, 3);
     let a = key_schedule::finished_verify_data(&secret, role(line, 2), &transcript, &mut out);
-    derived(a, &out);
+    derived(rt, a, &out)
 }
 
 // ---- lines
@@ -282,76 +286,76 @@ fn asks(line: &[u8], command: &[u8], kinds: &[u8]) -> bool {
     is_word(line, 0, command) && protocol::fits(line, kinds)
 }
 
-fn answer_other(line: &[u8]) {
+fn answer_other(rt: &impl Print, line: &[u8]) -> io::Result<()> {
     if asks(line, b"enc", &[16, 16]) {
-        encrypt(line);
+        encrypt(rt, line)
     } else if asks(line, b"dec", &[16, 16]) {
-        decrypt(line);
+        decrypt(rt, line)
     } else if asks(line, b"master", &[48, 32, 32]) {
-        master(line);
+        master(rt, line)
     } else if asks(line, b"keyblock", &[48, 32, 32, NUMBER]) {
-        key_block(line);
+        key_block(rt, line)
     } else if asks(line, b"finished", &[48, SIDE, 32]) {
-        finished(line);
+        finished(rt, line)
     } else {
-        text(b"bad\n");
+        text(rt, b"bad\n")
     }
 }
 
-fn answer_hash(line: &[u8]) {
+fn answer_hash(rt: &impl Print, line: &[u8]) -> io::Result<()> {
     if asks(line, b"sm3", &[BYTES]) {
-        hash_whole(line);
+        hash_whole(rt, line)
     } else if is_word(line, 0, b"sm3parts") && all_bytes(line) {
-        digest(hash_parts(line).finalize());
+        digest(rt, hash_parts(line).finalize())
     } else if is_word(line, 0, b"sm3state") && all_bytes(line) {
-        state(hash_parts(line));
+        state(rt, hash_parts(line))
     } else {
-        answer_other(line);
+        answer_other(rt, line)
     }
 }
 
-fn answer(line: &[u8]) {
+fn answer(rt: &impl Print, line: &[u8]) -> io::Result<()> {
     if asks(line, b"seal", &[SIDE, 128, NUMBER, 1, 2, 16, BYTES]) {
-        seal(line);
+        seal(rt, line)
     } else if asks(line, b"open", &[SIDE, 128, NUMBER, 1, 2, BYTES]) {
-        open(line);
+        open(rt, line)
     } else if asks(line, b"hmac", &[BYTES, BYTES]) {
-        mac_whole(line);
+        mac_whole(rt, line)
     } else if is_word(line, 0, b"hmacparts") && 0 < count(line) && all_bytes(line) {
-        digest(mac_parts(line).finalize());
+        digest(rt, mac_parts(line).finalize())
     } else {
-        answer_hash(line);
+        answer_hash(rt, line)
     }
 }
 
 // The first fill bytes of the line, if they are all of it.
-fn end_line(line: &[u8], fill: usize) {
+fn end_line(rt: &impl Print, line: &[u8], fill: usize) -> io::Result<()> {
     if fill <= line.len() {
-        answer(&line[..fill]);
+        answer(rt, &line[..fill])
     } else {
-        text(b"bad\n");
+        text(rt, b"bad\n")
     }
 }
 
 // The fill after one more byte: more than there is room for where the line is too long.
-fn take(line: &mut [u8], fill: usize, byte: u8) -> usize {
+fn take(rt: &impl Print, line: &mut [u8], fill: usize, byte: u8) -> io::Result<usize> {
     if byte == b'\n' {
-        end_line(line, fill);
-        return 0;
+        end_line(rt, line, fill)?;
+        return Ok(0);
     }
     if fill < line.len() {
         line[fill] = byte;
-        return fill + 1;
+        return Ok(fill + 1);
     }
-    usize::MAX
+    Ok(usize::MAX)
 }
 
-fn take_all(line: &mut [u8], fill: usize, input: &[u8]) -> usize {
+fn take_all(rt: &impl Print, line: &mut [u8], fill: usize, input: &[u8]) -> io::Result<usize> {
     let mut f = fill;
     for i in 0..input.len() {
-        f = take(line, f, input[i]);
+        f = take(rt, line, f, input[i])?;
     }
-    f
+    Ok(f)
 }
 
 // Whether the input goes on, and how much of a line is begun.
@@ -361,37 +365,54 @@ struct Read {
     fill: usize,
 }
 
+// Reads until the buffer is full, the input ends or a read fails; how many bytes are at the front of the buffer then.
+fn read_full(rt: &impl Input, buffer: &mut [u8]) -> usize
+    ensures { result ≤ length buffer.new }
+{
+    let mut input = rt.reader();
+    let mut done: usize = 0;
+    while done < buffer.len() {
+        let n = input.read(&mut buffer[done..]).unwrap_or(0);
+        if n == 0 {
+            return done;
+        }
+        done += n;
+    }
+    done
+}
+
 // Reads as much as the buffer takes; nothing more where the input ends or a read fails.
-fn read_some(line: &mut [u8], fill: usize) -> Read {
-    let mut buffer = io::buffer();
-    let n = io::read_full(libc::STDIN_FILENO, &mut buffer);
-    let left = take_all(line, fill, &buffer[..n]);
-    Read {
+fn read_some(rt: &(impl Input + Print), line: &mut [u8], fill: usize) -> io::Result<Read> {
+    let mut buffer = [0u8; 4096];
+    let n = read_full(rt, &mut buffer);
+    let left = take_all(rt, line, fill, &buffer[..n])?;
+    Ok(Read {
         more: 0 < n,
         fill: left,
-    }
+    })
 }
 
 // A proved loop has to end, and nothing says that an input does: so it counts its turns down, from a number that no run
 // uses up.
-fn read_all(line: &mut [u8]) -> usize {
+fn read_all(rt: &(impl Input + Print), line: &mut [u8]) -> io::Result<usize> {
     let mut fill: usize = 0;
     let mut turns = u64::MAX;
     while 0 < turns {
-        let read = read_some(line, fill);
+        let read = read_some(rt, line, fill)?;
         fill = read.fill;
         if !read.more {
-            return fill;
+            return Ok(fill);
         }
         turns -= 1;
     }
-    fill
+    Ok(fill)
 }
 
-fn main() {
-    let mut line = io::buffer();
-    let fill = read_all(&mut line);
+fn main(rt: HostRuntime) -> io::Result<()> {
+    let mut line = [0u8; 4096];
+    let fill = read_all(&rt, &mut line)?;
     if 0 < fill {
-        end_line(&line, fill);
+        end_line(&rt, &line, fill)?;
     }
+    Ok(())
 }

@@ -6,6 +6,7 @@
 use cbc_lines::both_cbc;
 use programs::{label, line, number, spread};
 use sm4::Sm4Cipher;
+use std::io;
 
 // A block enciphered n times over.
 fn repeated(cipher: Sm4Cipher, start: [u8; 16], n: u64) -> [u8; 16] {
@@ -31,33 +32,33 @@ fn iv() -> [u8; 16] {
 }
 
 // A body of the pattern's first n bytes.
-fn body(name: &[u8], n: usize) {
+fn body(rt: &impl Print, name: &[u8], n: usize) -> io::Result<()> {
     let mut m = [0u8; 128];
     spread(7, 3, &mut m);
     let size = n % 129;
-    both_cbc(name, cipher(), iv(), &m[..size]);
+    both_cbc(rt, name, cipher(), iv(), &m[..size])
 }
 
 // The rest of a line: out after block k of a record is asked for.
-fn asked(record: &[u8], k: usize, out: &mut [u8]) {
+fn asked(rt: &impl Print, record: &[u8], k: usize, out: &mut [u8]) -> io::Result<()> {
     cbc::decipher_block_cbc(cipher(), record, k, out);
-    line(b"", out);
+    line(rt, b"", out)
 }
 
 // Block k of a record of so many bytes, with so much room. Where there is no such block, nothing changes.
-fn one_block(size: usize, room: usize, k: usize) {
+fn one_block(rt: &impl Print, size: usize, room: usize, k: usize) -> io::Result<()> {
     let mut record = [0u8; 128];
     let mut out = [0xeeu8; 128];
     spread(7, 3, &mut record);
     let s = size % 129;
     let r = room % 129;
-    label(b"block", s, r);
-    number(b"-", k as u64);
-    asked(&record[..s], k, &mut out[..r]);
+    label(rt, b"block", s, r)?;
+    number(rt, b"-", k as u64)?;
+    asked(rt, &record[..s], k, &mut out[..r])
 }
 
 // GB/T 32907-2016, annex A, both examples: one block, and a block enciphered 1,000,000 times over.
-fn annex_a() {
+fn annex_a(rt: &impl Print) -> io::Result<()> {
     let mut key = [0u8; 16];
     words::copy_at(
         &mut key,
@@ -66,31 +67,31 @@ fn annex_a() {
     );
     let c = Sm4Cipher::new(key);
     let once = c.encrypt_block(key);
-    line(b"A.1-encrypt", &once);
+    line(rt, b"A.1-encrypt", &once)?;
     let back = c.decrypt_block(once);
-    line(b"A.1-decrypt", &back);
+    line(rt, b"A.1-decrypt", &back)?;
     let many = repeated(c, key, 1000000);
-    line(b"A.2", &many);
+    line(rt, b"A.2", &many)
 }
 
-fn main() {
-    annex_a();
-    body(b"body-16", 16);
-    body(b"body-32", 32);
-    body(b"body-48", 48);
-    body(b"body-64", 64);
-    body(b"body-128", 128);
-    body(b"body-53", 53);
-    body(b"body-15", 15);
-    one_block(48, 32, 1);
-    one_block(48, 32, 2);
-    one_block(47, 32, 1);
-    one_block(48, 31, 1);
-    one_block(64, 32, 2);
-    one_block(32, 64, 1);
-    one_block(16, 16, 0);
-    one_block(0, 16, 0);
-    one_block(128, 64, 18446744073709551615);
-    one_block(128, 64, 1152921504606846976);
-    one_block(128, 64, 1152921504606846975);
+fn main(rt: HostRuntime) -> io::Result<()> {
+    annex_a(&rt)?;
+    body(&rt, b"body-16", 16)?;
+    body(&rt, b"body-32", 32)?;
+    body(&rt, b"body-48", 48)?;
+    body(&rt, b"body-64", 64)?;
+    body(&rt, b"body-128", 128)?;
+    body(&rt, b"body-53", 53)?;
+    body(&rt, b"body-15", 15)?;
+    one_block(&rt, 48, 32, 1)?;
+    one_block(&rt, 48, 32, 2)?;
+    one_block(&rt, 47, 32, 1)?;
+    one_block(&rt, 48, 31, 1)?;
+    one_block(&rt, 64, 32, 2)?;
+    one_block(&rt, 32, 64, 1)?;
+    one_block(&rt, 16, 16, 0)?;
+    one_block(&rt, 0, 16, 0)?;
+    one_block(&rt, 128, 64, 18446744073709551615)?;
+    one_block(&rt, 128, 64, 1152921504606846976)?;
+    one_block(&rt, 128, 64, 1152921504606846975)
 }

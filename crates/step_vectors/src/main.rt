@@ -8,6 +8,7 @@ ghost use Rattle.std.specs.Prelude.{◌≤◌};
 use programs::{hex, label, line, number, spread, text};
 use record::RecordKeysCbc;
 use sm4::Sm4Cipher;
+use std::io;
 use steps::{OpeningCbc, Stepped};
 
 const NUMBER: u64 = 0x0102_0304_0506_0708;
@@ -15,46 +16,46 @@ const NUMBER: u64 = 0x0102_0304_0506_0708;
 const TYPE: u8 = 23;
 
 // Both rows of words, as bytes, and both keys.
-fn secrets(opening: OpeningCbc) {
+fn secrets(rt: &impl Print, opening: OpeningCbc) -> io::Result<()> {
     let words = opening.words;
     let kept = opening.kept;
     let mac_key = opening.mac_key;
     let enc_key = opening.enc_key;
-    hex(&sm3::digest_of(words));
-    hex(&sm3::digest_of(kept));
-    hex(&mac_key);
-    hex(&enc_key);
+    hex(rt, &sm3::digest_of(words))?;
+    hex(rt, &sm3::digest_of(kept))?;
+    hex(rt, &mac_key)?;
+    hex(rt, &enc_key)
 }
 
 // Number, type and version.
-fn header_parts(opening: OpeningCbc) {
+fn header_parts(rt: &impl Print, opening: OpeningCbc) -> io::Result<()> {
     let version = opening.version;
-    number(b" ", opening.seq);
-    number(b" ", opening.content_type as u64);
-    hex(&version);
+    number(rt, b" ", opening.seq)?;
+    number(rt, b" ", opening.content_type as u64)?;
+    hex(rt, &version)
 }
 
 // The fields behind them, in the state's order.
-fn progress(opening: OpeningCbc) {
-    number(b" ", opening.n as u64);
-    number(b" ", opening.total as u64);
-    number(b" ", opening.done as u64);
-    number(b" ", opening.held as u64);
-    number(b" ", opening.pad_ok as u64);
-    number(b" ", opening.ended as u64);
-    number(b" ", opening.answer as u64);
+fn progress(rt: &impl Print, opening: OpeningCbc) -> io::Result<()> {
+    number(rt, b" ", opening.n as u64)?;
+    number(rt, b" ", opening.total as u64)?;
+    number(rt, b" ", opening.done as u64)?;
+    number(rt, b" ", opening.held as u64)?;
+    number(rt, b" ", opening.pad_ok as u64)?;
+    number(rt, b" ", opening.ended as u64)?;
+    number(rt, b" ", opening.answer as u64)
 }
 
 // The rest of a line: answer, length, count, every field of the state, and the digest of the output.
-fn reported(s: Stepped, out: &[u8]) {
+fn reported(rt: &impl Print, s: Stepped, out: &[u8]) -> io::Result<()> {
     let digest = sm3::hash(out).bytes;
-    number(b" ", s.answer as u64);
-    number(b" ", s.length as u64);
-    number(b" ", s.count as u64);
-    secrets(s.opening);
-    header_parts(s.opening);
-    progress(s.opening);
-    line(b"", &digest);
+    number(rt, b" ", s.answer as u64)?;
+    number(rt, b" ", s.length as u64)?;
+    number(rt, b" ", s.count as u64)?;
+    secrets(rt, s.opening)?;
+    header_parts(rt, s.opening)?;
+    progress(rt, s.opening)?;
+    line(rt, b"", &digest)
 }
 
 fn keys() -> RecordKeysCbc {
@@ -123,169 +124,208 @@ fn sealed(len: usize, padlen: u8, at: usize, wrong: usize, record: &mut [u8])
 }
 
 // A line: one step.
-fn once(name: &[u8], k: usize, opening: OpeningCbc, record: &[u8], out: &mut [u8]) -> OpeningCbc {
+fn once(
+    rt: &impl Print,
+    name: &[u8],
+    k: usize,
+    opening: OpeningCbc,
+    record: &[u8],
+    out: &mut [u8],
+) -> io::Result<OpeningCbc> {
     let s = steps::step_cbc(opening, record, out);
-    text(name);
-    number(b"-", k as u64);
-    reported(s, out);
-    s.opening
+    text(rt, name)?;
+    number(rt, b"-", k as u64)?;
+    reported(rt, s, out)?;
+    Ok(s.opening)
 }
 
 // The steps behind the first that are done, up to step last, a line each.
 fn run(
+    rt: &impl Print,
     name: &[u8],
     from: OpeningCbc,
     first: usize,
     last: usize,
     record: &[u8],
     out: &mut [u8],
-) -> OpeningCbc {
+) -> io::Result<OpeningCbc> {
     let mut opening = from;
     for k in first..last {
-        opening = once(name, k + 1, opening, record, out);
+        opening = once(rt, name, k + 1, opening, record, out)?;
     }
-    opening
+    Ok(opening)
 }
 
 // The start, with an output that holds a pattern, and the steps up to step last.
-fn opened(name: &[u8], last: usize, record: &[u8], out: &mut [u8]) -> OpeningCbc {
+fn opened(
+    rt: &impl Print,
+    name: &[u8],
+    last: usize,
+    record: &[u8],
+    out: &mut [u8],
+) -> io::Result<OpeningCbc> {
     spread(11, 5, out);
     let s = started(record.len(), out.len());
-    text(name);
-    text(b"-0");
-    reported(s, out);
-    run(name, s.opening, 0, last, record, out)
+    text(rt, name)?;
+    text(rt, b"-0")?;
+    reported(rt, s, out)?;
+    run(rt, name, s.opening, 0, last, record, out)
 }
 
 // A body of 48 bytes, accepted.
-fn short() {
+fn short(rt: &impl Print) -> io::Result<()> {
     let mut body = [0u8; 48];
     let mut r = [0u8; 64];
     let mut out = [0u8; 50];
     lay_body(5, 10, 0, 0, &mut body);
     seal(&mut body, &mut r);
-    opened(b"short", 8, &r, &mut out);
+    opened(rt, b"short", 8, &r, &mut out)?;
+    Ok(())
 }
 
 // A body of 128 bytes, opened to its end.
-fn whole(name: &[u8], len: usize, padlen: u8, at: usize, wrong: usize) -> OpeningCbc
+fn whole(
+    rt: &impl Print,
+    name: &[u8],
+    len: usize,
+    padlen: u8,
+    at: usize,
+    wrong: usize,
+) -> io::Result<OpeningCbc>
     requires { len ≤ 128 }
 {
     let mut r = [0u8; 144];
     let mut out = [0u8; 160];
     sealed(len, padlen, at, wrong, &mut r);
-    opened(name, 14, &r, &mut out)
+    opened(rt, name, 14, &r, &mut out)
 }
 
 // A line: a step with a record of zeros and an output, both of these sizes.
-fn sized(name: &[u8], k: usize, opening: OpeningCbc, record_len: usize, room: usize)
+fn sized(
+    rt: &impl Print,
+    name: &[u8],
+    k: usize,
+    opening: OpeningCbc,
+    record_len: usize,
+    room: usize,
+) -> io::Result<()>
     requires { (record_len ≤ 160) × (room ≤ 160) }
 {
     let r = [0u8; 160];
     let mut out = [0xeeu8; 160];
-    once(name, k, opening, &r[..record_len], &mut out[..room]);
+    once(rt, name, k, opening, &r[..record_len], &mut out[..room])?;
+    Ok(())
 }
 
 // An opening that has ended: answer 8, and 7 before it.
-fn ended(opening: OpeningCbc) {
-    sized(b"ended", 15, opening, 144, 160);
-    sized(b"ended-record", 143, opening, 143, 160);
-    sized(b"ended-room", 127, opening, 144, 127);
+fn ended(rt: &impl Print, opening: OpeningCbc) -> io::Result<()> {
+    sized(rt, b"ended", 15, opening, 144, 160)?;
+    sized(rt, b"ended-record", 143, opening, 143, 160)?;
+    sized(rt, b"ended-room", 127, opening, 144, 127)?;
     let mut t = opening;
     t.done = 14;
-    sized(b"ended-done", 14, t, 144, 160);
+    sized(rt, b"ended-done", 14, t, 144, 160)?;
     t.held = 96;
-    sized(b"ended-held", 96, t, 144, 160);
+    sized(rt, b"ended-held", 96, t, 144, 160)
 }
 
 // T that is not of n, T or more steps done, and a held length above n - 33.
-fn out_of_range(opening: OpeningCbc) {
+fn out_of_range(rt: &impl Print, opening: OpeningCbc) -> io::Result<()> {
     let mut t = opening;
     t.total = 13;
-    sized(b"total", 13, t, 144, 160);
+    sized(rt, b"total", 13, t, 144, 160)?;
     t.total = 15;
-    sized(b"total", 15, t, 144, 160);
+    sized(rt, b"total", 15, t, 144, 160)?;
     let mut d = opening;
     d.done = 14;
-    sized(b"done", 14, d, 144, 160);
+    sized(rt, b"done", 14, d, 144, 160)?;
     d.done = 15;
-    sized(b"done", 15, d, 144, 160);
+    sized(rt, b"done", 15, d, 144, 160)?;
     let mut h = opening;
     h.held = 96;
-    sized(b"held", 96, h, 144, 160);
+    sized(rt, b"held", 96, h, 144, 160)
 }
 
 // A length that no body has, with T, a record and an output that would be of it.
-fn other_body(opening: OpeningCbc, n: usize)
+fn other_body(rt: &impl Print, opening: OpeningCbc, n: usize) -> io::Result<()>
     requires { n ≤ 144 }
 {
     let mut t = opening;
     t.n = n;
     t.total = sizes::total_steps(n);
     t.held = 0;
-    sized(b"n", n, t, n + 16, n);
+    sized(rt, b"n", n, t, n + 16, n)
 }
 
 // One block above the longest.
-fn too_long(opening: OpeningCbc) {
+fn too_long(rt: &impl Print, opening: OpeningCbc) -> io::Result<()> {
     let record = [0u8; 16464];
     let mut out = [0xeeu8; 16448];
     let mut t = opening;
     t.n = 16448;
     t.total = sizes::total_steps(16448);
-    once(b"n", 16448, t, &record, &mut out);
+    once(rt, b"n", 16448, t, &record, &mut out)?;
+    Ok(())
 }
 
 // Sizes that are not those of the opening.
-fn other_sizes(opening: OpeningCbc) {
-    sized(b"record", 143, opening, 143, 160);
-    sized(b"record", 145, opening, 145, 160);
-    sized(b"room", 127, opening, 144, 127);
-    other_body(opening, 32);
-    other_body(opening, 136);
-    too_long(opening);
+fn other_sizes(rt: &impl Print, opening: OpeningCbc) -> io::Result<()> {
+    sized(rt, b"record", 143, opening, 143, 160)?;
+    sized(rt, b"record", 145, opening, 145, 160)?;
+    sized(rt, b"room", 127, opening, 144, 127)?;
+    other_body(rt, opening, 32)?;
+    other_body(rt, opening, 136)?;
+    too_long(rt, opening)
 }
 
 // A body of 128 bytes with a wrong byte, held length and padding mark changed before the first step of the MAC, which no rule
 // refuses, and the steps from there on. Handed back is the opening as it was before.
-fn changed(name: &[u8], len: usize, padlen: u8, at: usize, held: usize, pad_ok: bool) -> OpeningCbc
+fn changed(
+    rt: &impl Print,
+    name: &[u8],
+    len: usize,
+    padlen: u8,
+    at: usize,
+    held: usize,
+    pad_ok: bool,
+) -> io::Result<OpeningCbc>
     requires { len ≤ 128 }
 {
     let mut r = [0u8; 144];
     let mut out = [0u8; 160];
     sealed(len, padlen, at, 1, &mut r);
-    let opening = opened(name, 9, &r, &mut out);
+    let opening = opened(rt, name, 9, &r, &mut out)?;
     let mut t = opening;
     t.held = held;
     t.pad_ok = pad_ok;
-    run(name, t, 9, 14, &r, &mut out);
-    opening
+    run(rt, name, t, 9, 14, &r, &mut out)?;
+    Ok(opening)
 }
 
 // A start by its sizes, and a step on what it hands back.
-fn start(record_len: usize, room: usize) {
+fn start(rt: &impl Print, record_len: usize, room: usize) -> io::Result<()> {
     let s = started(record_len, room);
-    label(b"start", record_len, room);
-    reported(s, b"");
-    sized(b"start-room", room, s.opening, 144, 160);
+    label(rt, b"start", record_len, room)?;
+    reported(rt, s, b"")?;
+    sized(rt, b"start-room", room, s.opening, 144, 160)
 }
 
-fn main() {
-    short();
+fn main(rt: HostRuntime) -> io::Result<()> {
+    short(&rt)?;
     // text and what the MAC adds to it are one block, so that the second of the MAC's steps has none
-    ended(whole(b"accepted", 42, 53, 0, 0));
-    whole(b"padding", 43, 52, 100, 1);
-    whole(b"mac", 95, 0, 126, 1);
+    ended(&rt, whole(&rt, b"accepted", 42, 53, 0, 0)?)?;
+    whole(&rt, b"padding", 43, 52, 100, 1)?;
+    whole(&rt, b"mac", 95, 0, 126, 1)?;
     // put right, and so accepted
-    changed(b"padding-changed", 43, 52, 100, 43, true);
-    let opening = changed(b"mac-changed", 95, 0, 126, 20, false);
-    out_of_range(opening);
-    other_sizes(opening);
-    start(63, 160);
-    start(65, 0);
-    start(64, 47);
-    start(64, 48);
-    start(16448, 16431);
-    start(16448, 16432);
-    start(16464, 16448);
+    changed(&rt, b"padding-changed", 43, 52, 100, 43, true)?;
+    let opening = changed(&rt, b"mac-changed", 95, 0, 126, 20, false)?;
+    out_of_range(&rt, opening)?;
+    other_sizes(&rt, opening)?;
+    start(&rt, 63, 160)?;
+    start(&rt, 65, 0)?;
+    start(&rt, 64, 47)?;
+    start(&rt, 64, 48)?;
+    start(&rt, 16448, 16431)?;
+    start(&rt, 16448, 16432)?;
+    start(&rt, 16464, 16448)
 }
