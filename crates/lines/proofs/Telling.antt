@@ -13,7 +13,7 @@ use Rattle.words.proofs.Lists.{part_to_end}
 use Rattle.words.proofs.Puts.{put-put}
 use Rattle.lines.specs.Judgement.{max_line_len, judged_line}
 use Rattle.lines.specs.Promise.{JudgedPut, ChunkTold, LastTold}
-use Rattle.lines.specs.Reading.{MOST, fresh, taken, advanced, finished, begun, is_begun, told}
+use Rattle.lines.specs.Reading.{MOST, fresh, taken, advanced, finished, begun, is_begun}
 use Rattle.lines.specs.Telling.{most_text, chunk_text, last_text, ended_text, next_line, no_room}
 use Rattle.lines.specs.Telling.{chunk_report, chunk_output, last_report, last_output}
 use Rattle.lines.specs.Text.{text_of, printed, PutAt}

@@ -263,8 +263,8 @@ fn put_numbers(a: usize, b: usize, c: usize, out: &mut [u8]) -> usize
 // The text of a judgement, in front, and how many bytes it takes.
 fn put_text(judged: Judged, out: &mut [u8]) -> usize
     requires { most_text ≤ length out.old }
-    ensures put_at { PutAt (text_of judged) out.old 0 result out.new }
-    ensures upper_bound { result ≤ most_text }
+    ensures laid { PutAt (text_of judged) out.old 0 result out.new }
+    ensures room { result ≤ most_text }
 {
     if judged.kind == SIZED {
         return put_numbers(judged.record_len, judged.answer as usize, judged.total, out);
