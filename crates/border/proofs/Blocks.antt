@@ -1,10 +1,9 @@
 -- One block of SM4 at the border, whichever way it goes: what the test of its sizes says, and a block laid over room for
 -- just a block. Assumes nothing.
-use mathlib.Core.Bool.{Bool, true, false, cond, not}
+use mathlib.Core.Bool.{Bool, true, false, cond}
 use mathlib.Core.List.{List}
 use mathlib.Core.Path.{◌≡◌, sym, ◌∙◌}
 use Prim.Native.Nat.{ℕ}
-use borrow.Author.Tests.{not-true, not-false}
 use lib.ListN.{length}
 use Rattle.words.specs.Lists.{put}
 use Rattle.words.proofs.Lists.{put_whole}
@@ -19,12 +18,12 @@ pub record Right (key block out : List ℕ) : Type 0 where
 -- t is what the test said
 module _ {t : Bool} (key block out : List ℕ) (e : t ≡ block_sizes key block out) where
   -- it failed: a size is not right
-  pub failed : not t ≡ true → block_sizes key block out ≡ false
-  failed n = sym e ∙ not-true t n
+  pub failed : t ≡ false → block_sizes key block out ≡ false
+  failed n = sym e ∙ n
 
   -- it held: every size is right
-  pub passed : not t ≡ false → Right key block out
-  passed n = let w = sym e ∙ not-false t n in record { sizes = w; long = block-long key block out w }
+  pub passed : t ≡ true → Right key block out
+  passed n = let w = sym e ∙ n in record { sizes = w; long = block-long key block out w }
 
 -- a block laid over room for just it is all there is
 pub laid : {key block out x y out' : List ℕ} → Right key block out → length x ≡ block_size → out' ≡ put 0 x out → x ≡ y

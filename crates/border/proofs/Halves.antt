@@ -1,11 +1,10 @@
 -- A key block's halves at the border: what a test says and what a refusal leaves, the keys of a half, their sizes, and keys
 -- laid over spans of their sizes. Assumes nothing.
-use mathlib.Core.Bool.{Bool, true, false, cond, not}
+use mathlib.Core.Bool.{Bool, true, false, cond}
 use mathlib.Core.List.{List}
 use mathlib.Core.Path.{◌≡◌, sym, ◌∙◌}
 use Prim.Native.Nat.{ℕ, ◌+◌, ◌-◌, ◌≤◌}
 use native.Mathlib.Omega.{arith}
-use borrow.Author.Tests.{not-true, not-false}
 use lib.ListN.{length, drop, length-drop}
 use lib.Seq.{length-take-le}
 use Rattle.answers.specs.Answers.{WrongSize}
@@ -19,11 +18,11 @@ use Rattle.border.specs.Border.{key_size, has, answer_for}
 use Rattle.border.proofs.Sizes.{is_long}
 
 -- what a test that failed, and one that held, say of the definition
-pub failed : {t d : Bool} → t ≡ d → not t ≡ true → d ≡ false
-failed {t = t} e n = sym e ∙ not-true t n
+pub failed : {t d : Bool} → t ≡ d → t ≡ false → d ≡ false
+failed e n = sym e ∙ n
 
-pub passed : {t d : Bool} → t ≡ d → not t ≡ false → d ≡ true
-passed {t = t} e n = sym e ∙ not-false t n
+pub passed : {t d : Bool} → t ≡ d → t ≡ true → d ≡ true
+passed e n = sym e ∙ n
 
 -- a test that failed is answer 9
 pub refused : {t : Bool} → t ≡ false → WrongSize ≡ answer_for t
