@@ -59,7 +59,7 @@ until_is_steps g o p most h =
     let c = same_count g o p in
     let ends : EndsAt (machine ours) (held_by ours g o 0) (T g) = (
       ap (λ (x : Held). x.opening.ended) (run_is_steps ours g o (T g)) ∙ c.ends,
-      λ k b. ap (λ (x : Held). x.opening.ended) (run_is_steps ours g o k) ∙ c.not-before k b,
+      λ k b. ap (λ (x : Held). x.opening.ended) (run_is_steps ours g o k) ∙ c.not_before k b,
     )
     in
     until-ends (machine ours) most (T g) (held_by ours g o 0) h ends ∙ rw (run_is_steps ours g o (T g))

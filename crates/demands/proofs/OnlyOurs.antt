@@ -43,7 +43,7 @@ only_our_opener opens exact refusals g o bytes = by (open_case (length g.r) (len
         let x = exact g o bytes c in
         let y = exact_acceptance g o bytes c in
         x.cleared (x.refused.1 none) ∙ sym (y.cleared (y.refused.1 none))
-    judged c (Verdict.a_Body text p b) =
+    judged c (Verdict.a_body text p b) =
         (exact g o bytes c).handed_out text p b ∙ sym ((exact_acceptance g o bytes c).handed_out text p b)
 
     by : OpenCase (length g.r) (length o) → opens g o ≡ our_opener g o
