@@ -5,7 +5,7 @@ use mathlib.Core.Path.{◌≡◌, sym, ap, ap₂, ◌∙◌}
 use Prim.Native.Nat.{ℕ, ◌+◌, ◌*◌, ◌/◌, ◌<◌}
 use native.Mathlib.Omega.{arith}
 use lib.ListN.{length}
-use lib.Seq.{paste, paste-zero}
+use lib.Seq.{paste}
 use Rattle.protocol.specs.Fields.{field_of, decoded}
 use Rattle.protocol.proofs.Fields.{digit-small, length-decoded, decoded-at, laid_more, laid-length, laid_all, laid_none}
 use Rattle.protocol.proofs.decode.Goals as goal
@@ -17,11 +17,6 @@ returns-then-out-n c =
     let e = sym (ap length (ap decoded f.ensures)) ∙ length-decoded f.result.now in
     let t = laid_none a.out.now (decoded (field_of a.k a.line.now)) (omega (arith, e)) in
     record { result = t.0; output = t.1 }
-
-pub loop-i-init : goal.loop-i-init
-loop-i-init c =
-    let out : List ℕ = c.args.out.now in
-    (omega arith, paste-zero out 0 (decoded c.field-f.result.now))
 
 pub overflow_mul-out : goal.overflow_mul-out
 overflow_mul-out c = omega (arith, digit-small _ _ c.digit-high.ensures)
@@ -52,7 +47,8 @@ returns c =
     let g : List ℕ = field_of a.k a.line.now in
     let all : l.i ≡ length f.result.now / 2 = omega arith in
     let e = sym (length-decoded f.result.now) ∙ ap length (ap decoded f.ensures) in
-    let laid = l.invariant.1
+    let laid =
+    l.invariant.1
     ∙ ap (λ (x : List ℕ). paste a.out.now 0 (decoded x) l.i) f.ensures
     ∙ ap (λ (j : ℕ). paste a.out.now 0 (decoded g) j) all in
     let t = laid_all a.out.now (decoded g) l.out (length f.result.now / 2) e (omega arith) laid in

@@ -8,7 +8,9 @@ use Rattle.protocol.specs.Kinds.{kinds_from}
 use Rattle.protocol.proofs.fits.Given as goal
 
 abbrev pub invariant-loop-i : goal.invariant-loop-i
-invariant-loop-i l = (l.i ≤ length l.kinds) × (times 0x20 l.line ≡ length l.kinds) × (kinds_from l.line 0 l.kinds ≡ kinds_from l.line l.i (drop l.i l.kinds))
+invariant-loop-i l =
+    (l.i ≤ length l.kinds) × (times 0x20 l.line ≡ length l.kinds)
+    × (kinds_from l.line 0 l.kinds ≡ kinds_from l.line l.i (drop l.i l.kinds))
 
 abbrev pub decreases-loop-i : goal.decreases-loop-i
 decreases-loop-i l = length l.kinds - l.i

@@ -23,9 +23,11 @@ returns-then-kind-eq-NUMBER c =
 pub returns-then-kind-eq-BYTES : goal.returns-then-kind-eq-BYTES
 unfolding is_kind
 returns-then-kind-eq-BYTES c =
-    rw (c.size-n.ensures, ne_eqb _ 255 c.if-kind-eq-SIDE.false, ne_eqb _ 254 c.if-kind-eq-NUMBER.false, eq-eqb _ 253 c.if-kind-eq-BYTES.true)
+    let other = ne_eqb _ 255 c.if-kind-eq-SIDE.false in
+    rw (c.size-n.ensures, other, ne_eqb _ 254 c.if-kind-eq-NUMBER.false, eq-eqb _ 253 c.if-kind-eq-BYTES.true)
 
 pub returns : goal.returns
 unfolding is_kind
 returns c =
-    rw (c.size-n.ensures, ne_eqb _ 255 c.if-kind-eq-SIDE.false, ne_eqb _ 254 c.if-kind-eq-NUMBER.false, ne_eqb _ 253 c.if-kind-eq-BYTES.false)
+    let other = ne_eqb _ 255 c.if-kind-eq-SIDE.false in
+    rw (c.size-n.ensures, other, ne_eqb _ 254 c.if-kind-eq-NUMBER.false, ne_eqb _ 253 c.if-kind-eq-BYTES.false)
