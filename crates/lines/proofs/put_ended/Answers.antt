@@ -2,23 +2,12 @@
 -- Assumes nothing.
 use native.Mathlib.Omega.{arith}
 use Rattle.lines.proofs.Telling.{ended-put, goes_on_put}
-use Rattle.lines.proofs.Writing.{put-long}
 use Rattle.lines.proofs.put_ended.Goals as goal
 
 pub returns-then-step : goal.returns-then-step
 returns-then-step c =
     ended-put c.args.step c.if-step.true
     c.judge_line.ensures c.put_judged.ensures
-
-pub overflow_add-result : goal.overflow_add-result
-overflow_add-result c =
-    let put =
-    ended-put c.args.step c.if-step.true
-    c.judge_line.ensures c.put_judged.ensures in
-    omega (arith, c.requires, put.behind)
-
-pub shape_of-out : goal.shape_of-out
-shape_of-out c = put-long (returns-then-step c)
 
 pub returns-else-step : goal.returns-else-step
 returns-else-step c =

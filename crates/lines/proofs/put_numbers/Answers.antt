@@ -72,6 +72,3 @@ returns c =
       front.behind,
       behind.behind,
     )))
-
-pub shape_of-out : goal.shape_of-out
-shape_of-out c = put-long (returns c)

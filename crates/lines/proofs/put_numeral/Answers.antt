@@ -15,6 +15,3 @@ returns c =
     let digits = c.put_decimal-end.ensures in
     let mark = c.put_byte.ensures in
     put-after digits mark (omega (arith, c.requires, digits.behind, mark.behind))
-
-pub shape_of-out : goal.shape_of-out
-shape_of-out c = put-long (returns c)

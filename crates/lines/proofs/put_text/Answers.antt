@@ -2,7 +2,6 @@
 use mathlib.Core.Path.{refl}
 use native.Mathlib.Omega.{arith}
 use Rattle.lines.proofs.Texts.{text-sized, text-long, text-bad, numbers-short}
-use Rattle.lines.proofs.Writing.{put-long}
 use Rattle.lines.proofs.put_text.Goals as goal
 
 pub put_numbers-requires : goal.put_numbers-requires
@@ -31,12 +30,3 @@ returns c =
     text-bad c.args.judged c.if-judged-eq-SIZED.false
     c.if-judged-eq-LONG.false in
     record { laid = rw text (record { behind = refl; laid = c.copy_at-2.ensures.output }); room = omega arith }
-
-pub shape_of-out-then-judged-eq-SIZED : goal.shape_of-out-then-judged-eq-SIZED
-shape_of-out-then-judged-eq-SIZED c = put-long (returns-then-judged-eq-SIZED c).laid
-
-pub shape_of-out-then-judged-eq-LONG : goal.shape_of-out-then-judged-eq-LONG
-shape_of-out-then-judged-eq-LONG c = put-long (returns-then-judged-eq-LONG c).laid
-
-pub shape_of-out : goal.shape_of-out
-shape_of-out c = put-long (returns c).laid

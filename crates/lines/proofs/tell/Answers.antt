@@ -32,8 +32,5 @@ loop-at-preserved c =
     c.loop-at-test.true c.advance-step.ensures
     c.put_ended-length.ensures c.next_line-current.ensures
 
-pub shape_of-out : goal.shape_of-out
-shape_of-out c = c.loop-at.invariant.long
-
 pub returns : goal.returns
 returns c = chunk_told c.loop-at.invariant (omega arith)
