@@ -37,10 +37,10 @@ build/libborder.a build/native/libborder.a build/timing/libborder.a: FORCE
 	$(call archive,border_c)
 
 build/native/libprobes.a: FORCE
-	$(call archive,probes)
+	$(call archive,probes_c)
 
 build/timing/libsm4_timing.a: FORCE
-	$(call archive,sm4_timing)
+	$(call archive,sm4_timing_c)
 
 # The gate compares this list with the tree.
 edits:
