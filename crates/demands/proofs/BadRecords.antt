@@ -7,7 +7,7 @@ use Prim.Native.Nat.{ℕ, ◌%◌, ◌≤◌, ◌<◌}
 use native.Mathlib.Omega.{arith}
 use borrow.Author.Tests.{eqb-true, eqb-false}
 use lib.Dec.{eqb, lit<, lit≤}
-use lib.ListN.{length, get_or, take, drop, replicate, length-append, length-replicate}
+use lib.ListN.{length, get_or, replicate, length-append, length-replicate}
 use lib.Seq.{take_at, drop_at}
 use Rattle.words.specs.Bytes.{Bytes}
 use Rattle.words.proofs.Bytes.{bytes-append, bytes-replicate}
@@ -15,7 +15,7 @@ use Rattle.words.proofs.Tests.{left_fails}
 use Rattle.sm4.specs.Block.{Block}
 use Rattle.sm4.specs.Standard.{encrypt, decrypt, round_keys_of}
 use Rattle.sm4.proofs.Inverse.{encrypt-block}
-use Rattle.cbc.specs.Cbc.{cbc_enc, cbc_dec}
+use Rattle.cbc.specs.Cbc.{cbc_enc}
 use Rattle.cbc.proofs.Cbc.{bytes-cbc_enc}
 use Rattle.cbc.proofs.Sm4.{enciphers, sm4_dec_enc}
 use Rattle.record.specs.Opened.{last_byte, good_pad, held, text_in, mac_in, accepts}

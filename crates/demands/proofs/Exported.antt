@@ -3,22 +3,18 @@
 use mathlib.Core.Bool.{true, false, ◌&&◌}
 use mathlib.Core.List.{List}
 use mathlib.Core.Path.{◌≡◌, refl, sym, ap, subst, ◌∙◌}
-use Prim.Native.Nat.{ℕ, suc, ◌-◌}
+use Prim.Native.Nat.{ℕ, suc}
 use native.Mathlib.Nat.{suc-ne-zero}
 use borrow.Author.Tests.{eqb-true, eq-eqb, ne_eqb}
 use lib.ListN.{length, take}
-use Rattle.answers.specs.Answers.{Done, WrongSize}
 use Rattle.words.specs.Bytes.{be}
 use Rattle.words.proofs.Tests.{both, untrue}
 use Rattle.record.specs.declared.Sealed.{Sealed}
-use Rattle.record.specs.Limits.{iv_len}
-use Rattle.sizes.specs.Sizes.{total_steps}
 use Rattle.opening.specs.declared.Opened.{Opened}
-use Rattle.opening.specs.Given.{Given, size}
+use Rattle.opening.specs.Given.{size}
 use Rattle.border.specs.Border.{has, key_sizes, keys_from, given_from, role_of}
-use Rattle.border.specs.Promise.{SealedFor, OpenedFor}
 use Rattle.demands.specs.Exported.{KeySizes, sealed_to, opened_to, ExportedSeal, ExportedOpen, ExportedRoundTrip, ExportedAcceptance, ExportedCount, ExportedCallsAlike, ExportedRoles, SealWrongSize, OpenWrongSize}
-use Rattle.demands.specs.Openers.{our_sealer, our_opener, laid, StatedRecord, RoundTrip, Exact, ExactAcceptance, BothRefuse}
+use Rattle.demands.specs.Openers.{our_sealer, our_opener, StatedRecord, RoundTrip, Exact, ExactAcceptance, BothRefuse}
 use Rattle.demands.proofs.Demand2.{stated_record, round_trip, exact_acceptance, calls_alike}
 
 -- ---- sizes

@@ -6,7 +6,7 @@ use mathlib.Core.Path.{◌≡◌, refl, sym, ap, ◌∙◌}
 use Prim.Native.Nat.{ℕ, suc, ◌+◌, ◌-◌, ◌≤◌, ◌<◌}
 use native.Mathlib.Omega.{arith}
 use borrow.Author.Tests.{lt-leb}
-use lib.Dec.{leb, lit≤, lit<}
+use lib.Dec.{lit≤, lit<}
 use lib.ListN.{length, get_or, drop, replicate, length-append, length-replicate, get_or-replicate}
 use lib.Seq.{drop_at, get_or-append-add}
 use Rattle.words.specs.Bytes.{number}

@@ -1,14 +1,13 @@
 -- The one call and our steps: the call reports and leaves what the last of T steps does, or what a refused start does; and the loops
 -- over the steps lead there. Assumes nothing.
 use mathlib.Core.List.{List}
-use mathlib.Core.Path.{◌≡◌, refl, sym, ap, ap₂, ◌∙◌}
+use mathlib.Core.Path.{◌≡◌, sym, ap, ◌∙◌}
 use Prim.Native.Nat.{ℕ}
 use borrow.Author.Tests.{ne_eqb}
 use lib.ListN.{length}
 use Rattle.answers.specs.Answers.{Done}
 use Rattle.steps.specs.declared.Stepped.{Stepped}
 use Rattle.steps.specs.State.{start_answer}
-use Rattle.opening.specs.declared.Opened.{Opened}
 use Rattle.opening.specs.Deprotected.{deprotected, output_of}
 use Rattle.opening.specs.Given.{Given}
 use Rattle.demands.specs.Checks.{NotOpened}

@@ -8,15 +8,13 @@ use borrow.Author.Tests.{ltb-true, ltb-false}
 use lib.Dec.{ltb}
 use lib.ListN.{length}
 use Rattle.answers.specs.Answers.{Ended}
-use Rattle.words.specs.Bytes.{Bytes}
 use Rattle.steps.specs.declared.Stepped.{Stepped}
 use Rattle.steps.specs.State.{report}
 use Rattle.steps.specs.Step.{broken}
-use Rattle.opening.specs.Given.{Given}
 use Rattle.demands.specs.Checks.{Openable, NotOpened}
 use Rattle.demands.specs.OnlyOurs.{OnlyOurSealer, OnlyOurOpener, OnlyOurSteps, OnlyOurStep}
-use Rattle.demands.specs.Openers.{Opener, our_sealer, our_opener, StatedRecord, SealRefusals, Exact, ExactAcceptance, OpenRefusals}
-use Rattle.demands.specs.Steppers.{Stepper, ours, after_by, Passes, WorkAsDefined, StepsTooMany, RefusedStart, InRange, EveryStep}
+use Rattle.demands.specs.Openers.{our_sealer, our_opener, StatedRecord, SealRefusals, ExactAcceptance, OpenRefusals}
+use Rattle.demands.specs.Steppers.{ours, after_by, Passes, WorkAsDefined, StepsTooMany, RefusedStart, InRange, EveryStep}
 use Rattle.demands.proofs.Checks.{SealCase, seal_case, OpenCase, open_case}
 use Rattle.demands.proofs.Demand2.{stated_record, seal_refusals, Verdict, verdict, exact_acceptance, open_refusals}
 use Rattle.demands.proofs.Demand3.{work_as_defined, steps_too_many, refused-start-7, in_range_lem, not-broken, every-step}

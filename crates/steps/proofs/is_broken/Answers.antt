@@ -21,7 +21,9 @@ fourth s r room e f g h = rw (e, eq-eqb s.total (total_steps s.n) f, g, h)
 
 pub returns-then-not-allowed : goal.returns-then-not-allowed
 unfolding broken
-returns-then-not-allowed c = rw (← c.allowed.ensures, c.if-not-allowed.true)
+returns-then-not-allowed c =
+    let not_allowed : allowed c.args.opening.n ≡ false = sym c.allowed.ensures ∙ c.if-not-allowed.true in
+    rw not_allowed
 
 pub returns-then-total-total_steps : goal.returns-then-total-total_steps
 unfolding broken

@@ -1,4 +1,4 @@
--- `steps::work_step` meets its contract: its tests are those of `workAt`, in the same order, and an opening that is not broken
+-- `steps::work_step` meets its contract: its tests are those of `work_at`, in the same order, and an opening that is not broken
 -- has what each step asks. Assumes nothing.
 use mathlib.Core.Bool.{false}
 use mathlib.Core.Path.{◌≡◌, refl, sym}
