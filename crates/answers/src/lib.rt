@@ -1,5 +1,32 @@
-// The answer numbers by name, as the scope's table has them. Every call that can refuse answers one of these.
+// The answer numbers by name, as the scope's table has them. A call that can refuse answers a refusal, or one of these numbers where
+// its answer is chosen by a mask or goes to C.
 #![tactic(auto)]
+
+ghost use Rattle.std.specs.Prelude.{◌≡◌};
+ghost use Rattle.answers.specs.Answers.{number};
+
+// Why a call was refused. Each case has the scope's number.
+#[derive(Clone, Copy, Debug, PartialEq, Eq)]
+pub enum Refusal {
+    TooLong = 1,
+    NoRoom,
+    Short,
+    Ragged,
+    TooBig,
+    BadRecord,
+    BadState,
+    Ended,
+    WrongSize,
+}
+
+impl Refusal {
+    // The scope's number of the case.
+    pub fn number(self) -> u8
+        ensures { result ≡ number self }
+    {
+        self as u8
+    }
+}
 
 pub const DONE: u8 = 0;
 
