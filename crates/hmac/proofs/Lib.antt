@@ -1,3 +1,4 @@
 pub mod KeyBlock
 pub mod Mac
+pub mod OneOutcome
 pub mod Range

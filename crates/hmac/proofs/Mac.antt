@@ -10,11 +10,10 @@ use lib.ListN.{length, replicate, length-append}
 use Rattle.answers.specs.Answers.{Done}
 use Rattle.words.specs.Lists.{xor_each}
 use Rattle.sm3_compress.specs.Standard.{CF}
-use Rattle.sm3.specs.declared.Digest.{Digest}
 use Rattle.sm3.specs.declared.Sm3.{Sm3}
 use Rattle.sm3.specs.Cutting.{joined, fed as fedHash}
 use Rattle.sm3.specs.Standard.{IV, zeros, count, ending, padded, iteration, bytes_of, SM3}
-use Rattle.sm3.specs.State.{fresh, taken, hashed, finalized as digested}
+use Rattle.sm3.specs.State.{Digest, fresh, taken, hashed, finalized as digested}
 use Rattle.sm3.proofs.Cutting.{fed-fits, taken-cut, taken_twice}
 use Rattle.sm3.proofs.Ending.{length-count}
 use Rattle.sm3.proofs.Iteration.{iteration-block, iteration-one}

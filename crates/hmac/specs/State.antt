@@ -1,13 +1,31 @@
 -- The running MAC as a machine: what each call makes of a state, on every state. Assumes nothing.
-use Rattle.std.specs.Prelude.{Bool, cond, ◌&&◌, List, ℕ, eqb, ltb, replicate}
-use Rattle.answers.specs.Answers.{Done, BadState}
+use Rattle.std.specs.Prelude.{Result, Ok, Err, Bool, false, cond, ◌&&◌, List, ℕ, eqb, ltb, replicate}
+use Rattle.answers.specs.declared.Refusal.{Refusal}
+use Rattle.answers.specs.Answers.{Done, BadState, number}
 use Rattle.words.specs.Lists.{xor_each, agree}
-use Rattle.sm3.specs.declared.Digest.{Digest}
-use Rattle.sm3.specs.State.{fresh, taken, hashed, finalized as digested}
+use Rattle.sm3.specs.State.{Digest, fresh, taken, hashed, finalized as digested}
 use Rattle.hmac.specs.declared.HmacSm3.{HmacSm3}
-use Rattle.hmac.specs.declared.Keyed.{Keyed}
-use Rattle.hmac.specs.declared.Verified.{Verified}
 use Rattle.hmac.specs.Rfc2104.{B, L, ipad, opad, K', HMAC}
+
+-- what a start or an update answers, and the state that stands after it
+pub record Keyed : Type 0 where
+  pub answer : ℕ
+  pub mac : HmacSm3
+
+-- what a verification answers, and whether the MAC is the expected one
+pub record Verified : Type 0 where
+  pub answer : ℕ
+  pub matches : Bool
+
+-- the number and the values of each case of a result: where an update is refused, the state as given
+abbrev pub keyed_of : HmacSm3 → Result HmacSm3 Refusal → Keyed
+keyed_of m (Ok next) = record { answer = Done; mac = next }
+keyed_of m (Err why) = record { answer = number why; mac = m }
+
+-- where a verification is refused, no
+abbrev pub verified_by : Result Bool Refusal → Verified
+verified_by (Ok agreed) = record { answer = Done; matches = agreed }
+verified_by (Err why) = record { answer = number why; matches = false }
 
 -- the bytes of `hash`: SM3 below 2^61 bytes
 unfoldable pub hash_bytes : List ℕ → List ℕ

@@ -106,6 +106,11 @@ cut ds = holds_digest (fed fresh ds) (joined ds) (fed-holds fresh [] ds fresh_ho
 pub uncut : (m : List ℕ) → finalized (updated fresh m).hasher ≡ hashed m
 uncut m = holds_digest (updated fresh m).hasher m (updated-holds fresh [] m fresh_holds)
 
+-- nor one by `taken`
+pub whole : (m : List ℕ) → finalized (taken fresh m) ≡ hashed m
+unfolding fresh
+whole m = ap finalized (sym (update_takes fresh m (omega arith))) ∙ uncut m
+
 -- ---- the same for a state by `taken`, as the MAC above has it
 
 -- what updates leave is in range

@@ -1,10 +1,29 @@
 -- The running hash as a machine: what each call makes of a state, on every state. Assumes nothing.
-use Rattle.std.specs.Prelude.{ℕ, ◌+◌, ◌*◌, ◌/◌, ◌%◌, ◌^◌, cond, ◌&&◌, List, ◌++◌, length, take, drop, replicate, nat_le, nat_lt}
-use Rattle.answers.specs.Answers.{Done, BadState}
-use Rattle.sm3.specs.declared.Digest.{Digest}
+use Rattle.std.specs.Prelude.{Result, Ok, Err, ℕ, ◌+◌, ◌*◌, ◌/◌, ◌%◌, ◌^◌, cond, ◌&&◌, List, ◌++◌, length, take, drop, replicate, nat_le, nat_lt}
+use Rattle.answers.specs.declared.Refusal.{Refusal}
+use Rattle.answers.specs.Answers.{Done, BadState, number}
 use Rattle.sm3.specs.declared.Sm3.{Sm3}
-use Rattle.sm3.specs.declared.Updated.{Updated}
 use Rattle.sm3.specs.Standard.{IV, ending, iteration, bytes_of}
+
+-- what an update answers, and the state that stands after it
+pub record Updated : Type 0 where
+  pub answer : ℕ
+  pub hasher : Sm3
+
+-- what a digest is answered with, and its 32 bytes
+pub record Digest : Type 0 where
+  pub answer : ℕ
+  pub bytes : List ℕ
+
+-- the number and the values of each case of a result: where an update is refused, the state as given
+abbrev pub update_of : Sm3 → Result Sm3 Refusal → Updated
+update_of h (Ok next) = record { answer = Done; hasher = next }
+update_of h (Err why) = record { answer = number why; hasher = h }
+
+-- where a digest is refused, zeros
+abbrev pub digest_by : Result (List ℕ) Refusal → Digest
+digest_by (Ok bytes) = record { answer = Done; bytes = bytes }
+digest_by (Err why) = record { answer = number why; bytes = replicate 32 0 }
 
 -- nothing taken in yet
 unfoldable pub fresh : Sm3

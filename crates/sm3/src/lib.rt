@@ -1,13 +1,13 @@
 // The hash function SM3, GB/T 32905-2016: the running hash `Sm3` (new, update, finalize) and `hash`, from the Rust's
-// sm3.rs. A state goes by value and comes back; a state whose fill is above 63 is refused with answer 7. Lengths and
+// sm3.rs. A state goes by value and comes back; a state whose fill is above 63 is refused (answer 7). Lengths and
 // the fill are public, and only they are branched on.
 #![tactic(auto)]
 
 ghost use Rattle.std.specs.Prelude.{◌≡◌, ◌+◌, ◌-◌, ◌<◌, ◌≤◌, ◌∷◌, ◌++◌, length, take, drop, replicate};
 ghost use Rattle.sm3.specs.Standard.{bytes_of, iteration, count};
-ghost use Rattle.sm3.specs.State.{fresh, absorbed, pending, base, updated, finalized, hashed};
+ghost use Rattle.sm3.specs.State.{fresh, absorbed, pending, base, taken, updated, finalized, hashed, update_of, digest_by};
 
-use answers::{BAD_STATE, DONE};
+use answers::Refusal;
 use sm3_compress::compress;
 
 // The eight starting words, section 4.1.
@@ -35,18 +35,6 @@ pub struct Sm3 {
     pub buffer: [u8; 64],
     pub buffer_len: usize,
     pub total_len: u64,
-}
-
-#[derive(Clone, Copy)]
-pub struct Updated {
-    pub answer: u8,
-    pub hasher: Sm3,
-}
-
-#[derive(Clone, Copy)]
-pub struct Digest {
-    pub answer: u8,
-    pub bytes: [u8; 32],
 }
 
 // The 64 bytes of data from at on.
@@ -159,71 +147,59 @@ impl Sm3 {
         }
     }
 
-    // The state that has taken in data too; answer 7 and the state as given where its fill is above 63.
-    pub fn update(self, data: &[u8]) -> Updated
-        ensures { result ≡ updated self «data».now }
+    // The state with data taken in, where its fill is below 64.
+    fn take_in(self, data: &[u8]) -> Sm3
+        requires { self.buffer_len < 64 }
+        ensures { result ≡ taken self «data».now }
     {
-        let fill = self.buffer_len;
-        if BLOCK_SIZE <= fill {
-            return Updated {
-                answer: BAD_STATE,
-                hasher: self,
-            };
-        }
-        let total = std::num::wrapping_add_u64(self.total_len, data.len() as u64);
-        if fill == 0 {
-            let state = self.state;
-            let buffer = self.buffer;
-            let hasher = absorb(state, buffer, total, data);
-            return Updated {
-                answer: DONE,
-                hasher,
-            };
-        }
-        let hasher = absorb_behind(self, total, data);
-        Updated {
-            answer: DONE,
-            hasher,
+        let total = self.total_len.wrapping_add(data.len() as u64);
+        if self.buffer_len == 0 {
+            absorb(self.state, self.buffer, total, data)
+        } else {
+            absorb_behind(self, total, data)
         }
     }
 
-    // The digest of all bytes so far; answer 7 and zeros where the fill is above 63.
-    pub fn finalize(self) -> Digest
-        ensures { result ≡ finalized self }
+    // The digest of all bytes so far, where the fill is below 64.
+    fn digest(self) -> [u8; DIGEST_SIZE]
+        requires { self.buffer_len < 64 }
+        ensures { result ≡ (finalized self).bytes }
     {
-        let fill = self.buffer_len;
-        if BLOCK_SIZE <= fill {
-            let zeros = [0u8; 32];
-            return Digest {
-                answer: BAD_STATE,
-                bytes: zeros,
-            };
-        }
-        let state = self.state;
-        let buffer = self.buffer;
-        let block = mark(buffer, fill);
-        if fill < 56 {
-            let bytes = digest_of(compress(state, put_count(block, self.total_len)));
-            return Digest {
-                answer: DONE,
-                bytes,
-            };
+        let block = mark(self.buffer, self.buffer_len);
+        if self.buffer_len < 56 {
+            return digest_of(compress(self.state, put_count(block, self.total_len)));
         }
         // no room for the count: a block of zeros carries it
-        let zeros = [0u8; 64];
-        let next = compress(state, block);
-        let bytes = digest_of(compress(next, put_count(zeros, self.total_len)));
-        Digest {
-            answer: DONE,
-            bytes,
+        let next = compress(self.state, block);
+        digest_of(compress(next, put_count([0; 64], self.total_len)))
+    }
+
+    // The state that has taken in data too; refused where the fill is above 63, and then the state stays as given.
+    #[tactic(auto, unfolding(crate::specs::State::updated))]
+    pub fn update(self, data: &[u8]) -> Result<Sm3, Refusal>
+        ensures { update_of self result ≡ updated self «data».now }
+    {
+        if BLOCK_SIZE <= self.buffer_len {
+            return Err(Refusal::BadState);
         }
+        Ok(self.take_in(data))
+    }
+
+    // The digest of all bytes so far; refused where the fill is above 63.
+    #[tactic(auto, unfolding(crate::specs::State::finalized), using(crate::proofs::Ending::digest_done))]
+    pub fn finalize(self) -> Result<[u8; DIGEST_SIZE], Refusal>
+        ensures { digest_by result ≡ finalized self }
+    {
+        if BLOCK_SIZE <= self.buffer_len {
+            return Err(Refusal::BadState);
+        }
+        Ok(self.digest())
     }
 }
 
 // The digest of a whole message.
-pub fn hash(message: &[u8]) -> Digest
-    ensures { result ≡ hashed message.now }
+pub fn hash(message: &[u8]) -> [u8; DIGEST_SIZE]
+    ensures { result ≡ (hashed message.now).bytes }
 {
-    let u = Sm3::new().update(message);
-    u.hasher.finalize()
+    Sm3::new().take_in(message).digest()
 }

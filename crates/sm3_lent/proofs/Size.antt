@@ -8,9 +8,8 @@ use borrow.Author.Tests.{eq-eqb, ne_eqb}
 use lib.Dec.{ltb}
 use lib.ListN.{length}
 use Rattle.answers.specs.Answers.{WrongSize}
-use Rattle.sm3.specs.declared.Digest.{Digest}
 use Rattle.sm3.specs.declared.Sm3.{Sm3}
-use Rattle.sm3.specs.State.{finalized}
+use Rattle.sm3.specs.State.{Digest, finalized}
 use Rattle.sm3.proofs.Ending.{length-bytes_of}
 use Rattle.sm3_lent.specs.Lent.{finish_answer, finish_digest}
 

@@ -4,51 +4,47 @@
 #![tactic(auto)]
 
 ghost use Rattle.std.specs.Prelude.{◌∷◌, ◌++◌, [], ◌≡◌};
+ghost use Rattle.answers.specs.Answers.{number_of};
 ghost use Rattle.sm3.specs.Cutting.{fed};
 ghost use Rattle.sm3.specs.State.{fresh, hashed};
 ghost use Rattle.sm3_lent.specs.Promise.{Started, Taken, Digested};
 
-use answers::WRONG_SIZE;
-use sm3::{Digest, Sm3};
+use answers::Refusal;
+use sm3::{DIGEST_SIZE, Sm3};
 
 // A fresh state, whatever stood there.
 pub fn start(h: &mut Sm3)
     ensures { Started h.new }
 {
-    let first = Sm3::new();
-    *h = first;
+    *h = Sm3::new();
 }
 
-// data is taken in; answer 7 and the state as found where its fill is above 63.
-pub fn update(h: &mut Sm3, data: &[u8]) -> u8
-    ensures { Taken h.old «data».now result h.new }
+// data is taken in; refused, and the state as found, where its fill is above 63.
+pub fn update(h: &mut Sm3, data: &[u8]) -> Result<(), Refusal>
+    ensures { Taken h.old «data».now (number_of result) h.new }
 {
-    let old = *h;
-    let next = old.update(data);
-    *h = next.hasher;
-    next.answer
+    *h = h.update(data)?;
+    Ok(())
 }
 
-// The digest of a state by value, put where there is room for just it.
-fn put_digest(h: Sm3, digest: &mut [u8]) -> u8
-    ensures { Digested h digest.old result digest.new }
+// The digest of all bytes so far into 32 bytes, the state as it was. A digest of another size is refused before all else and
+// stays as found; where the state's fill is above 63 it becomes zeros.
+pub fn finish(h: &Sm3, digest: &mut [u8]) -> Result<(), Refusal>
+    ensures { Digested h.now digest.old (number_of result) digest.new }
 {
-    if digest.len() == sm3::DIGEST_SIZE {
-        let d = h.finalize();
-        let bytes = d.bytes;
-        words::copy_at(digest, 0, &bytes);
-        return d.answer;
+    if digest.len() != DIGEST_SIZE {
+        return Err(Refusal::WrongSize);
     }
-    WRONG_SIZE
-}
-
-// The digest of all bytes so far into 32 bytes, the state as it was. Answer 9 and the digest as found where it has not
-// 32 bytes, before all else; answer 7 and zeros where the state's fill is above 63.
-pub fn finish(h: &Sm3, digest: &mut [u8]) -> u8
-    ensures { Digested h.now digest.old result digest.new }
-{
-    let state = *h;
-    put_digest(state, digest)
+    match h.finalize() {
+        Ok(bytes) => {
+            digest.copy_from_slice(&bytes);
+            Ok(())
+        }
+        Err(why) => {
+            digest.copy_from_slice(&[0; DIGEST_SIZE]);
+            Err(why)
+        }
+    }
 }
 
 // The state after two parts, which one lent state takes in.
@@ -56,15 +52,14 @@ fn fed_twice(first: &[u8], second: &[u8]) -> Sm3
     ensures { result ≡ fed fresh (first.now ∷ second.now ∷ []) }
 {
     let mut h = Sm3::new();
-    update(&mut h, first);
-    update(&mut h, second);
+    update(&mut h, first).unwrap();
+    update(&mut h, second).unwrap();
     h
 }
 
 // The digest of a message in two parts, by one state that is lent twice. Its caller lends none.
-pub fn hash_two(first: &[u8], second: &[u8]) -> Digest
-    ensures { result ≡ hashed (first.now ++ second.now) }
+pub fn hash_two(first: &[u8], second: &[u8]) -> [u8; DIGEST_SIZE]
+    ensures { result ≡ (hashed (first.now ++ second.now)).bytes }
 {
-    let h = fed_twice(first, second);
-    h.finalize()
+    fed_twice(first, second).finalize().unwrap()
 }

@@ -6,9 +6,9 @@ pub returns : goal.returns
 unfolding started
 returns c =
     rw (
-      c.with_block-outer.ensures,
+      c.with_block-2.ensures,
       c.xor_pad-2.ensures,
-      c.with_block-inner.ensures,
+      c.with_block.ensures,
       c.xor_pad.ensures,
       c.k_prime-k.ensures,
     )

@@ -1,20 +1,19 @@
--- `HmacSm3::verify` meets its contract: two tests as numbers, both of them 1. Assumes nothing.
-use mathlib.Core.Bool.{Bool, ◌&&◌}
-use mathlib.Core.List.{List}
-use mathlib.Core.Path.{ap, ◌∙◌}
-use Prim.Native.Nat.{ℕ}
-use lib.Dec.{eqb}
+-- `HmacSm3::verify` meets its contract: the digest's refusal, and the comparison of all bytes. Assumes nothing.
+use Rattle.std.proofs.Common.{rules, ◌≡◌, Bool, Err, sym, ap, ◌∙◌}
 use Rattle.answers.specs.Answers.{Done}
 use Rattle.words.specs.Lists.{agree}
-use Rattle.sm3.specs.declared.Digest.{Digest}
-use Rattle.hmac.specs.State.{verified}
-use Rattle.hmac.proofs.Range.{verdict}
+use Rattle.hmac.proofs.Range.{verified_done, verified-broken, yes_is_one}
 use Rattle.hmac.proofs.HmacSm3.verify.Goals as goal
 
+pub returns-in_err-computed : goal.returns-in_err-computed
+returns-in_err-computed c =
+    let why = c.in_err-computed.field-0.0 in
+    let r : c.from_residual.result ≡ Err why = search rules in
+    rw r (sym (verified-broken c.args.self c.args.expected why c.in_err-computed.ensures))
+
 pub returns : goal.returns
-unfolding verified
 returns c =
-    let e : List ℕ = c.args.expected in
-    let x = c.finalize-computed in
-    ap (λ (t : Bool). record { answer = x.result.answer; matches = t }) (verdict x.result e c.ct_eq_u8.ensures c.ct_eq.ensures)
-    ∙ ap (λ (d : Digest). record { answer = d.answer; matches = eqb d.answer Done && agree d.bytes e }) x.ensures
+    let e = c.args.expected in
+    let x = c.in_ok-computed in
+    ap (λ (t : Bool). record { answer = Done; matches = t }) (yes_is_one (agree x.computed e) c.ct_eq.ensures)
+    ∙ sym (verified_done c.args.self x.computed e x.ensures)
