@@ -41,7 +41,7 @@ use Rattle.key_schedule.specs.declared.TlcpRole.{TlcpRole}
 use Rattle.key_schedule.specs.Promise.{MasterSecret, KeyBlock, Finished}
 use Rattle.key_schedule.specs.Sizes.{inputs_right, master_secret_sizes, key_block_sizes, finished_sizes}
 use Rattle.key_schedule.specs.Standard.{A, block, blocks, P_hash, PRF, master_secret, key_block, finished}
-use Rattle.key_schedule.proofs.Expansion.{length_P_hash}
+use Rattle.key_schedule.proofs.Blocks.{length_P_hash}
 use Rattle.key_schedule.proofs.Lengths.{length-HMAC}
 use Rattle.key_schedule.proofs.Sizes.{inputs-lengths}
 use Rattle.record.specs.KeyBlock.{client_keys, server_keys, zero_keys, halved_by, keys_of}

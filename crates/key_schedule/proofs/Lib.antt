@@ -1,5 +1,5 @@
+pub mod Blocks
 pub mod Depth
-pub mod Expansion
 pub mod Lengths
 pub mod OneOutcome
 mod Parts

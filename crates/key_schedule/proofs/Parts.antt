@@ -5,12 +5,11 @@ use Prim.Native.Nat.{ℕ, ◌≤◌}
 use native.Mathlib.Omega.{arith}
 use lib.ListN.{length, length-append}
 use Rattle.sm3.specs.Cutting.{joined}
-use Rattle.sm3.specs.declared.Digest.{Digest}
+use Rattle.sm3.specs.State.{Digest}
 use Rattle.sm3.specs.Standard.{SM3}
-use Rattle.hmac.proofs.Mac.{cut, mac-standard}
-use Rattle.hmac.specs.Cutting.{fed}
+use Rattle.hmac.proofs.Mac.{mac-standard}
 use Rattle.hmac.specs.Rfc2104.{HMAC}
-use Rattle.hmac.specs.State.{started, finalized, mac}
+use Rattle.hmac.specs.State.{mac}
 use Rattle.key_schedule.specs.Sizes.{Small}
 
 -- no count wraps
@@ -19,10 +18,8 @@ few secret x h k = ap (λ (d : Digest). d.bytes) (mac-standard secret x (omega a
 
 -- four parts, end to end
 pub parts : (secret a label first second : List ℕ) → Small secret label first second → length a ≤ 64
-    → (finalized (fed (started secret).mac (a ∷ label ∷ first ∷ second ∷ []))).bytes
-    ≡ HMAC SM3 secret (a ++ (label ++ (first ++ second)))
+    → (mac secret (joined (a ∷ label ∷ first ∷ second ∷ []))).bytes ≡ HMAC SM3 secret (a ++ (label ++ (first ++ second)))
 unfolding joined
 parts secret a label first second h k =
-    ap (λ (d : Digest). d.bytes) (cut secret (a ∷ label ∷ first ∷ second ∷ []))
-    ∙ ap (λ (x : List ℕ). (mac secret (a ++ (label ++ (first ++ x)))).bytes) (append-nil second)
+    ap (λ (x : List ℕ). (mac secret (a ++ (label ++ (first ++ x)))).bytes) (append-nil second)
     ∙ few secret (a ++ (label ++ (first ++ second))) h.secret-small (simp length-append (omega arith))

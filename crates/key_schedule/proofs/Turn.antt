@@ -14,7 +14,7 @@ use Rattle.key_schedule.specs.Rest.{rest}
 use Rattle.key_schedule.specs.Sizes.{Asked}
 use Rattle.key_schedule.specs.Standard.{blocks}
 use Rattle.key_schedule.proofs.Depth.{blocks_more}
-use Rattle.key_schedule.proofs.Expansion.{rest-last, rest_more}
+use Rattle.key_schedule.proofs.Blocks.{rest-last, rest_more}
 use Rattle.key_schedule.proofs.Lengths.{length-HMAC}
 
 -- the part from n to the end is what is behind the first n

@@ -20,12 +20,13 @@ returns-then-not-inputs_right c =
     c.then-not-inputs_right.either in
     record { result = rw wrong; output = rw wrong }
 
-pub prf-requires : goal.prf-requires
-prf-requires c =
-    let n = inputs-lengths _ _ _ (sym c.inputs_right.ensures ∙ c.if-not-inputs_right.false) in (
-      record { secret-small = omega arith; label_small = omega arith; first_small = omega arith; second-small = omega arith },
-      omega arith,
-    )
+-- inputs that pass are short
+pub invariant_of-expansion : goal.invariant_of-expansion
+invariant_of-expansion c =
+    let n = inputs-lengths _ _ _ (sym c.inputs_right.ensures ∙ c.if-not-inputs_right.false) in
+    record {
+      small = record { secret-small = omega arith; label_small = omega arith; first_small = omega arith; second-small = omega arith };
+    }
 
 -- neither fails, so the definition's test holds
 pub returns : goal.returns

@@ -11,7 +11,6 @@ use lib.ListN.{length}
 use Rattle.answers.specs.Answers.{Done}
 use Rattle.words.proofs.Tests.{left_fails, right_fails}
 use Rattle.key_schedule.specs.declared.TlcpRole.{TlcpRole}
-use Rattle.key_schedule.specs.declared.TlcpRole.TheVariants.{Client, Server}
 use Rattle.key_schedule.specs.Promise.{Finished}
 use Rattle.key_schedule.specs.Sizes.{master_secret_len, random_len, finished_verify_data_len, finished_sizes}
 use Rattle.key_schedule.specs.Standard.{label_of, PRF, finished}
@@ -49,14 +48,9 @@ done m h out x role e f g p =
           ∙ ap (PRF m (label_of role) h) g);
     }
 
-pub returns-in-Client : goal.returns-in-Client
-returns-in-Client c =
-    rw c.in-Client.is
-    (done c.args.master_secret.now c.args.transcript_hash.now c.args.out.now _ Client c.if-master_secret-ne-MASTER_SECRET_LEN.false
-    c.if-transcript_hash-ne-RANDOM_LEN.false c.if-out-ne-FINISHED_VERIFY_DATA_LEN.false c.prf.ensures)
-
-pub returns-in-Server : goal.returns-in-Server
-returns-in-Server c =
-    rw c.in-Server.is
-    (done c.args.master_secret.now c.args.transcript_hash.now c.args.out.now _ Server c.if-master_secret-ne-MASTER_SECRET_LEN.false
-    c.if-transcript_hash-ne-RANDOM_LEN.false c.if-out-ne-FINISHED_VERIFY_DATA_LEN.false c.prf-in-Server.ensures)
+pub returns : goal.returns
+returns c =
+    let a = c.args in
+    done a.master_secret.now a.transcript_hash.now a.out.now _ a.role c.if-master_secret-ne-MASTER_SECRET_LEN.false
+    c.if-transcript_hash-ne-RANDOM_LEN.false c.if-out-ne-FINISHED_VERIFY_DATA_LEN.false
+    (c.prf.ensures ∙ ap (λ (l : List ℕ). PRF a.master_secret.now l (a.transcript_hash.now ++ []) (length a.out.now)) c.label.ensures)
