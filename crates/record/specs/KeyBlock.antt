@@ -1,9 +1,9 @@
 -- The halves of a key block: a MAC key and a cipher key for each side. Assumes nothing.
-use Rattle.std.specs.Prelude.{cond, List, ℕ, ◌+◌, ◌-◌, eqb, length, take, drop, replicate}
-use Rattle.answers.specs.Answers.{Done, WrongSize}
+use Rattle.std.specs.Prelude.{Result, Ok, Err, cond, List, ℕ, ◌+◌, ◌-◌, eqb, length, take, drop, replicate}
+use Rattle.answers.specs.declared.Refusal.{Refusal}
+use Rattle.answers.specs.Answers.{Done, WrongSize, number}
 use Rattle.key_schedule.specs.declared.TlcpRole.{TlcpRole}
 use Rattle.key_schedule.specs.declared.TlcpRole.TheVariants.{Client, Server}
-use Rattle.record.specs.declared.Halved.{Halved}
 use Rattle.record.specs.declared.RecordKeysCbc.{RecordKeysCbc}
 use Rattle.record.specs.Limits.{cbc_key_block_len}
 
@@ -24,6 +24,16 @@ keys_at m e b = record { mac_key = part m (m + 32) b; enc_key = part e (e + 16) 
 -- what a refusal hands back
 unfoldable pub zero_keys : RecordKeysCbc
 zero_keys = record { mac_key = replicate 32 0; enc_key = replicate 16 0 }
+
+-- what cutting a key block answers, and the keys
+pub record Halved : Type 0 where
+  pub answer : ℕ
+  pub keys : RecordKeysCbc
+
+-- the number and the values of each case of a result: of a refusal, keys of zeros
+abbrev pub half_by : Result RecordKeysCbc Refusal → Halved
+half_by (Ok keys) = record { answer = Done; keys = keys }
+half_by (Err why) = record { answer = number why; keys = zero_keys }
 
 -- the keys of a key block, where it has the right length
 unfoldable pub halved_by : (List ℕ → RecordKeysCbc) → List ℕ → Halved

@@ -1,8 +1,7 @@
 -- What sealing promises: its report, and the output afterwards. Assumes nothing.
 use Rattle.std.specs.Prelude.{List, ◌≡◌, ℕ, length}
 use Rattle.record.specs.declared.RecordKeysCbc.{RecordKeysCbc}
-use Rattle.record.specs.declared.Sealed.{Sealed}
-use Rattle.record.specs.Sealing.{report_of, output_of}
+use Rattle.record.specs.Sealing.{Sealed, report_of, output_of}
 
 pub record Protected (keys : RecordKeysCbc) (seq type : ℕ) (version iv text out : List ℕ) (report : Sealed) (out' : List ℕ) : Type 0
   where

@@ -7,13 +7,13 @@ ghost use Rattle.std.specs.Prelude.{◌++◌, ◌≡◌, ◌+◌, ◌≤◌, len
 ghost use Rattle.words.specs.Lists.{put};
 ghost use Rattle.sm3.specs.Standard.{SM3};
 ghost use Rattle.hmac.specs.Rfc2104.{HMAC};
-ghost use Rattle.record.specs.KeyBlock.{client_keys, server_keys, keys_at, zero_keys, halved_by, keys_of};
+ghost use Rattle.record.specs.KeyBlock.{client_keys, server_keys, keys_at, half_by, halved_by, keys_of};
 ghost use Rattle.record.specs.Limits.{tlcp_record_version, max_plaintext, mac_len, cbc_key_block_len};
 ghost use Rattle.record.specs.Promise.{Protected};
+ghost use Rattle.record.specs.Sealing.{reported};
 ghost use Rattle.record.specs.Standard.{header, padding, pad_of, sealed_length};
 
-use answers::{DONE, NO_ROOM, TOO_LONG, WRONG_SIZE};
-use hmac::HmacSm3;
+use answers::Refusal;
 use key_schedule::TlcpRole;
 use sm4::Sm4Cipher;
 
@@ -45,66 +45,39 @@ pub struct RecordKeysCbc {
     pub enc_key: [u8; 16],
 }
 
-#[derive(Clone, Copy)]
-pub struct Halved {
-    pub answer: u8,
-    pub keys: RecordKeysCbc,
-}
-
-#[derive(Clone, Copy)]
-pub struct Sealed {
-    pub answer: u8,
-    pub length: usize,
-}
-
-// What a refusal hands back.
-fn zero_keys() -> RecordKeysCbc
-    ensures { result ≡ zero_keys }
-{
-    RecordKeysCbc {
-        mac_key: [0; 32],
-        enc_key: [0; 16],
-    }
-}
-
-// The keys that start at mac and at enc in the key block; answer 9 where it has another length.
-fn half_at(key_block: &[u8], mac: usize, enc: usize) -> Halved
+// The keys that start at mac and at enc in the key block; refused where it has another length.
+fn half_at(key_block: &[u8], mac: usize, enc: usize) -> Result<RecordKeysCbc, Refusal>
     requires { (mac + 32 ≤ cbc_key_block_len) × (enc + 16 ≤ cbc_key_block_len) }
-    ensures { result ≡ halved_by (keys_at mac enc) key_block.now }
+    ensures { half_by result ≡ halved_by (keys_at mac enc) key_block.now }
 {
     if key_block.len() != CBC_KEY_BLOCK_LEN {
-        let keys = zero_keys();
-        return Halved {
-            answer: WRONG_SIZE,
-            keys,
-        };
+        return Err(Refusal::WrongSize);
     }
     let mut mac_key = [0u8; 32];
     let mut enc_key = [0u8; 16];
-    words::copy_at(&mut mac_key, 0, &key_block[mac..mac + 32]);
-    words::copy_at(&mut enc_key, 0, &key_block[enc..enc + 16]);
-    let keys = RecordKeysCbc { mac_key, enc_key };
-    Halved { answer: DONE, keys }
+    mac_key.copy_from_slice(&key_block[mac..mac + 32]);
+    enc_key.copy_from_slice(&key_block[enc..enc + 16]);
+    Ok(RecordKeysCbc { mac_key, enc_key })
 }
 
 impl RecordKeysCbc {
-    // The client's keys: bytes 0..32 for the MAC, 64..80 for the cipher. A key block of another length is answer 9.
-    pub fn client_half(key_block: &[u8]) -> Halved
-        ensures { result ≡ halved_by client_keys key_block.now }
+    // The client's keys: bytes 0..32 for the MAC, 64..80 for the cipher. A key block of another length is refused.
+    pub fn client_half(key_block: &[u8]) -> Result<RecordKeysCbc, Refusal>
+        ensures { half_by result ≡ halved_by client_keys key_block.now }
     {
         half_at(key_block, 0, 64)
     }
 
-    // The server's keys: bytes 32..64 for the MAC, 80..96 for the cipher. A key block of another length is answer 9.
-    pub fn server_half(key_block: &[u8]) -> Halved
-        ensures { result ≡ halved_by server_keys key_block.now }
+    // The server's keys: bytes 32..64 for the MAC, 80..96 for the cipher. A key block of another length is refused.
+    pub fn server_half(key_block: &[u8]) -> Result<RecordKeysCbc, Refusal>
+        ensures { half_by result ≡ halved_by server_keys key_block.now }
     {
         half_at(key_block, 32, 80)
     }
 
     // The keys that the side named by role seals with.
-    pub fn from_key_block(role: TlcpRole, key_block: &[u8]) -> Halved
-        ensures { result ≡ halved_by (keys_of role) key_block.now }
+    pub fn from_key_block(role: TlcpRole, key_block: &[u8]) -> Result<RecordKeysCbc, Refusal>
+        ensures { half_by result ≡ halved_by (keys_of role) key_block.now }
     {
         match role {
             TlcpRole::Client => RecordKeysCbc::client_half(key_block),
@@ -132,11 +105,7 @@ fn record_mac(mac_key: [u8; 32], covered: [u8; 13], text: &[u8]) -> [u8; 32]
     requires { length text.now ≤ max_plaintext }
     ensures { result ≡ HMAC SM3 mac_key (covered ++ text.now) }
 {
-    let k = HmacSm3::new(&mac_key);
-    let with_header = k.mac.update(&covered);
-    let with_text = with_header.mac.update(text);
-    let digest = with_text.mac.finalize();
-    digest.bytes
+    hmac::hmac_sm3_parts(&mac_key, &[&covered, text])
 }
 
 // Text, MAC and the shortest padding laid over the front of body, which has room for them.
@@ -160,10 +129,9 @@ fn sealed_length(len: usize) -> usize
     16 * (len / 16 + 4)
 }
 
-// The sealed record laid over the front of out: the IV, then text, MAC and padding enciphered; bytes behind it stay as found.
-// More text than MAX_PLAINTEXT is answer 1, tested first; less room than the record takes is answer 2. Either leaves out as
-// found and reports length 0. That nobody can guess the IV, and that no number is used twice under one key, is the
-// caller's duty.
+// The sealed record laid over the front of out: the IV, then text, MAC and padding enciphered; bytes behind it stay as found. Its length
+// is handed back. More text than MAX_PLAINTEXT is refused first, then less room than the record takes; either leaves out as found. That
+// nobody can guess the IV, and that no number is used twice under one key, is the caller's duty.
 pub fn protect_cbc(
     keys: RecordKeysCbc,
     seq: u64,
@@ -172,33 +140,22 @@ pub fn protect_cbc(
     iv: [u8; 16],
     plaintext: &[u8],
     out: &mut [u8],
-) -> Sealed
-    ensures { Protected keys seq content_type version iv plaintext.now out.old result out.new }
+) -> Result<usize, Refusal>
+    ensures { Protected keys seq content_type version iv plaintext.now out.old (reported result) out.new }
 {
     let len = plaintext.len();
     if MAX_PLAINTEXT < len {
-        return Sealed {
-            answer: TOO_LONG,
-            length: 0,
-        };
+        return Err(Refusal::TooLong);
     }
     let total = sealed_length(len);
     if out.len() < total {
-        return Sealed {
-            answer: NO_ROOM,
-            length: 0,
-        };
+        return Err(Refusal::NoRoom);
     }
-    let mac_key = keys.mac_key;
-    let enc_key = keys.enc_key;
     let covered = record_header(seq, content_type, version, len as u16);
-    let mac = record_mac(mac_key, covered, plaintext);
+    let mac = record_mac(keys.mac_key, covered, plaintext);
     // the part behind the IV is lent on: first to lay the body there, then to encipher it where it stands
     words::copy_at(out, 0, &iv);
     lay_body(plaintext, mac, &mut out[IV_LEN..]);
-    cbc::encipher_cbc(Sm4Cipher::new(enc_key), iv, &mut out[IV_LEN..total]);
-    Sealed {
-        answer: DONE,
-        length: total,
-    }
+    cbc::encipher_cbc(Sm4Cipher::new(keys.enc_key), iv, &mut out[IV_LEN..total]);
+    Ok(total)
 }
