@@ -3,7 +3,7 @@
 #![tactic(auto)]
 
 ghost use Rattle.std.specs.Prelude.{◌≡◌};
-ghost use Rattle.answers.specs.Answers.{number};
+ghost use Rattle.answers.specs.Answers.{number, number_of};
 
 // Why a call was refused. Each case has the scope's number.
 #[derive(Clone, Copy, Debug, PartialEq, Eq)]
@@ -25,6 +25,16 @@ impl Refusal {
         ensures { result ≡ number self }
     {
         self as u8
+    }
+}
+
+// The scope's number of a result: of one that is no refusal, 0.
+pub fn number_of<T: Copy>(answer: Result<T, Refusal>) -> u8
+    ensures { result ≡ number_of answer }
+{
+    match answer {
+        Ok(_) => DONE,
+        Err(why) => why.number(),
     }
 }
 

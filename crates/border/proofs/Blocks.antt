@@ -5,8 +5,6 @@ use mathlib.Core.List.{List}
 use mathlib.Core.Path.{◌≡◌, sym, ◌∙◌}
 use Prim.Native.Nat.{ℕ}
 use lib.ListN.{length}
-use Rattle.words.specs.Lists.{put}
-use Rattle.words.proofs.Lists.{put_whole}
 use Rattle.border.specs.Border.{key_size, block_size, block_sizes}
 use Rattle.border.proofs.Sizes.{block-long}
 
@@ -25,7 +23,6 @@ module _ {t : Bool} (key block out : List ℕ) (e : t ≡ block_sizes key block 
   pub passed : t ≡ true → Right key block out
   passed n = let w = sym e ∙ n in record { sizes = w; long = block-long key block out w }
 
--- a block laid over room for just it is all there is
-pub laid : {key block out x y out' : List ℕ} → Right key block out → length x ≡ block_size → out' ≡ put 0 x out → x ≡ y
-    → out' ≡ cond (block_sizes key block out) y out
-laid {out = out} {x = x} s n e m = rw s.sizes (e ∙ put_whole x out (n ∙ sym s.long.2) ∙ m)
+-- what was put there is all there is
+pub laid : {key block out y out' : List ℕ} → Right key block out → out' ≡ y → out' ≡ cond (block_sizes key block out) y out
+laid s e = rw s.sizes e

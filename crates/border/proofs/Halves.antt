@@ -2,17 +2,19 @@
 -- laid over spans of their sizes. Assumes nothing.
 use mathlib.Core.Bool.{Bool, true, false, cond}
 use mathlib.Core.List.{List}
-use mathlib.Core.Path.{◌≡◌, sym, ◌∙◌}
+use mathlib.Core.Path.{◌≡◌, refl, sym, ap, ◌∙◌}
 use Prim.Native.Nat.{ℕ, ◌+◌, ◌-◌, ◌≤◌}
 use native.Mathlib.Omega.{arith}
 use lib.ListN.{length, drop, length-drop}
 use lib.Seq.{length-take-le}
-use Rattle.answers.specs.Answers.{WrongSize}
+use Rattle.std.specs.Prelude.{Result, Ok, Err, IsOk}
+use Rattle.answers.specs.declared.Refusal.{Refusal}
+use Rattle.answers.specs.Answers.{WrongSize, number_of}
+use Rattle.answers.proofs.Numbers.{number_of-ok}
 use Rattle.words.specs.Lists.{put}
 use Rattle.words.proofs.Lists.{put_whole}
-use Rattle.record.specs.declared.Halved.{Halved}
 use Rattle.record.specs.declared.RecordKeysCbc.{RecordKeysCbc}
-use Rattle.record.specs.KeyBlock.{part, client_keys, server_keys, halved_by}
+use Rattle.record.specs.KeyBlock.{Halved, part, client_keys, server_keys, half_by, halved_by}
 use Rattle.record.specs.Limits.{mac_len, cbc_key_block_len}
 use Rattle.border.specs.Border.{key_size, has, answer_for}
 use Rattle.border.proofs.Sizes.{is_long}
@@ -55,11 +57,21 @@ server-long b e =
     let n = is_long cbc_key_block_len b e in
     (part-long 32 32 b (omega (arith, n)), part-long 80 16 b (omega (arith, n)))
 
--- where the key block has its size, a half has its keys
-pub keys_of_half : {h : Halved} (keys : List ℕ → RecordKeysCbc) (b : List ℕ) → has cbc_key_block_len b ≡ true
-    → h ≡ halved_by keys b → h.keys ≡ keys b
+-- where the key block has its size, a half is not refused
+pub half_ok : (r : Result RecordKeysCbc Refusal) (keys : List ℕ → RecordKeysCbc) (b : List ℕ) → has cbc_key_block_len b ≡ true
+    → half_by r ≡ halved_by keys b → IsOk r
 unfolding halved_by has
-keys_of_half keys b e q = rw (q, e)
+half_ok r keys b e q = number_of-ok r (halves r ∙ ap (λ (h : Halved). h.answer) (rw e at q))
+  where
+    halves : (r : Result RecordKeysCbc Refusal) → number_of r ≡ (half_by r).answer
+    halves (Ok k) = refl
+    halves (Err why) = refl
+
+-- and has its keys
+pub keys_of_half : {h : RecordKeysCbc} (keys : List ℕ → RecordKeysCbc) (b : List ℕ) → has cbc_key_block_len b ≡ true
+    → half_by (Ok h) ≡ halved_by keys b → h ≡ keys b
+unfolding halved_by has
+keys_of_half keys b e q = ap (λ (h : Halved). h.keys) (rw e at q)
 
 -- keys h that are those keys, laid over spans of their sizes, are all there is
 module _ (h keys : RecordKeysCbc) (out : List ℕ) (e : h ≡ keys) (s : Sized keys) where

@@ -1,4 +1,5 @@
 mod Blocks
 mod Halves
 pub mod OneOutcome
+mod Results
 mod Sizes

@@ -4,6 +4,7 @@
 #![tactic(auto)]
 
 ghost use Rattle.std.specs.Prelude.{◌&&◌, ◌≡◌, length};
+ghost use Rattle.answers.specs.Answers.{number_of};
 ghost use Rattle.words.specs.Lists.{put};
 ghost use Rattle.record.specs.Limits.{mac_len, iv_len};
 ghost use Rattle.border.specs.Border.{
@@ -34,22 +35,23 @@ ghost use Rattle.border.specs.Promise.{
   DigestedFor,
 };
 
-use answers::{DONE, WRONG_SIZE};
+use answers::{DONE, Refusal, number_of};
 use key_schedule::TlcpRole;
 use record::RecordKeysCbc;
-use sm3::Sm3;
-use sm4::Sm4Cipher;
+use sm3::{DIGEST_SIZE, Sm3};
+use sm4::{BLOCK_SIZE, KEY_SIZE, Sm4Cipher};
 
 // The bytes into out, if it has room for just them.
-fn put_digest(out: &mut [u8], bytes: [u8; 32]) -> u32
-    ensures answers { result ≡ answer_for (sized out.old) }
+#[tactic(auto, unfolding(crate::specs::Border::answer_for, crate::specs::Border::sized, crate::specs::Border::filled, crate::specs::Border::has))]
+fn put_digest(out: &mut [u8], bytes: [u8; DIGEST_SIZE]) -> Result<(), Refusal>
+    ensures answers { number_of result ≡ answer_for (sized out.old) }
     ensures leaves { out.new ≡ filled bytes out.old }
 {
-    if out.len() == sm3::DIGEST_SIZE {
-        words::copy_at(out, 0, &bytes);
-        return DONE as u32;
+    if out.len() != DIGEST_SIZE {
+        return Err(Refusal::WrongSize);
     }
-    WRONG_SIZE as u32
+    out.copy_from_slice(&bytes);
+    Ok(())
 }
 
 // SM3 of the message into a digest of 32 bytes.
@@ -57,9 +59,7 @@ fn put_digest(out: &mut [u8], bytes: [u8; 32]) -> u32
 pub extern "C" fn noustrel_sm3(message: &[u8], digest: &mut [u8]) -> u32
     ensures { Hashed message.now digest.old result digest.new }
 {
-    let hashed = sm3::hash(message);
-    let bytes = hashed.bytes;
-    put_digest(digest, bytes)
+    number_of(put_digest(digest, sm3::hash(message))) as u32
 }
 
 // HMAC-SM3 of the message under the key into a MAC of 32 bytes.
@@ -67,28 +67,16 @@ pub extern "C" fn noustrel_sm3(message: &[u8], digest: &mut [u8]) -> u32
 pub extern "C" fn noustrel_hmac_sm3(key: &[u8], message: &[u8], mac: &mut [u8]) -> u32
     ensures { Maced key.now message.now mac.old result mac.new }
 {
-    let tag = hmac::hmac_sm3(key, message);
-    let bytes = tag.bytes;
-    put_digest(mac, bytes)
+    number_of(put_digest(mac, hmac::hmac_sm3(key, message))) as u32
 }
 
-// Sixteen bytes as an array.
-fn array_16(x: &[u8]) -> [u8; 16]
-    requires { length x.now ≡ 16 }
+// All the bytes as an array.
+fn array<const N: usize>(x: &[u8]) -> [u8; N]
+    requires { length x.now ≡ N }
     ensures { result ≡ x.now }
 {
-    let mut a = [0u8; 16];
-    words::copy_at(&mut a, 0, x);
-    a
-}
-
-// Thirty-two bytes as an array.
-fn array_32(x: &[u8]) -> [u8; 32]
-    requires { length x.now ≡ 32 }
-    ensures { result ≡ x.now }
-{
-    let mut a = [0u8; 32];
-    words::copy_at(&mut a, 0, x);
+    let mut a = [0u8; N];
+    a.copy_from_slice(x);
     a
 }
 
@@ -96,7 +84,7 @@ fn array_32(x: &[u8]) -> [u8; 32]
 fn key_sizes(mac_key: &[u8], enc_key: &[u8]) -> bool
     ensures { result ≡ key_sizes mac_key.now enc_key.now }
 {
-    mac_key.len() == record::MAC_LEN && enc_key.len() == sm4::KEY_SIZE
+    mac_key.len() == record::MAC_LEN && enc_key.len() == KEY_SIZE
 }
 
 // Whether they and the IV have their sizes.
@@ -111,11 +99,9 @@ fn keys_from(mac_key: &[u8], enc_key: &[u8]) -> RecordKeysCbc
     requires { (length mac_key.now ≡ mac_len) × (length enc_key.now ≡ key_size) }
     ensures { result ≡ keys_from mac_key.now enc_key.now }
 {
-    let mac = array_32(mac_key);
-    let enc = array_16(enc_key);
     RecordKeysCbc {
-        mac_key: mac,
-        enc_key: enc,
+        mac_key: array(mac_key),
+        enc_key: array(enc_key),
     }
 }
 
@@ -136,14 +122,13 @@ pub extern "C" fn noustrel_seal(
 {
     if !seal_sizes(mac_key, enc_key, iv) {
         *length = 0;
-        return WRONG_SIZE as u32;
+        return Refusal::WrongSize.number() as u32;
     }
     let keys = keys_from(mac_key, enc_key);
     let high_first = big_endian::u16_to_be_bytes(version);
-    let start = array_16(iv);
-    let sealed = record::protect_cbc(keys, number, content_type, high_first, start, text, out);
-    *length = sealed.length;
-    sealed.answer as u32
+    let sealed = record::protect_cbc(keys, number, content_type, high_first, array(iv), text, out);
+    *length = sealed.unwrap_or(0);
+    number_of(sealed) as u32
 }
 
 // The record's text into the front of out, its length into length, the steps made into count.
@@ -164,7 +149,7 @@ pub extern "C" fn noustrel_open(
     if !key_sizes(mac_key, enc_key) {
         *length = 0;
         *count = 0;
-        return WRONG_SIZE as u32;
+        return Refusal::WrongSize.number() as u32;
     }
     let keys = keys_from(mac_key, enc_key);
     let high_first = big_endian::u16_to_be_bytes(version);
@@ -178,20 +163,21 @@ pub extern "C" fn noustrel_open(
 fn block_sizes(key: &[u8], block: &[u8], out: &[u8]) -> bool
     ensures { result ≡ block_sizes key.now block.now out.now }
 {
-    key.len() == sm4::KEY_SIZE && (block.len() == sm4::BLOCK_SIZE && out.len() == sm4::BLOCK_SIZE)
+    key.len() == KEY_SIZE && (block.len() == BLOCK_SIZE && out.len() == BLOCK_SIZE)
 }
 
+// Twins of which C names both. One function over the direction, by a closure or handed an optional cipher and block, is not covered
+// by the borrow checker or tells its caller nothing.
 // The block enciphered under the key, into out.
 #[unsafe(no_mangle)]
 pub extern "C" fn noustrel_sm4_encrypt_block(key: &[u8], block: &[u8], out: &mut [u8]) -> u32
     ensures { EncipheredFor key.now block.now out.old result out.new }
 {
     if !block_sizes(key, block, out) {
-        return WRONG_SIZE as u32;
+        return Refusal::WrongSize.number() as u32;
     }
-    let cipher = Sm4Cipher::new(array_16(key));
-    let enciphered = cipher.encrypt_block(array_16(block));
-    words::copy_at(out, 0, &enciphered);
+    let cipher = Sm4Cipher::new(array(key));
+    out.copy_from_slice(&cipher.encrypt_block(array(block)));
     DONE as u32
 }
 
@@ -201,11 +187,10 @@ pub extern "C" fn noustrel_sm4_decrypt_block(key: &[u8], block: &[u8], out: &mut
     ensures { DecipheredFor key.now block.now out.old result out.new }
 {
     if !block_sizes(key, block, out) {
-        return WRONG_SIZE as u32;
+        return Refusal::WrongSize.number() as u32;
     }
-    let cipher = Sm4Cipher::new(array_16(key));
-    let deciphered = cipher.decrypt_block(array_16(block));
-    words::copy_at(out, 0, &deciphered);
+    let cipher = Sm4Cipher::new(array(key));
+    out.copy_from_slice(&cipher.decrypt_block(array(block)));
     DONE as u32
 }
 
@@ -219,7 +204,8 @@ pub extern "C" fn noustrel_master_secret(
 ) -> u32
     ensures { MasterSecretFor pre_master.now client_random.now server_random.now out.old result out.new }
 {
-    key_schedule::derive_master_secret(pre_master, client_random, server_random, out) as u32
+    let derived = key_schedule::derive_master_secret(pre_master, client_random, server_random, out);
+    number_of(derived) as u32
 }
 
 // The key block, as long as out.
@@ -232,7 +218,8 @@ pub extern "C" fn noustrel_key_block(
 ) -> u32
     ensures { KeyBlockFor master_secret.now client_random.now server_random.now out.old result out.new }
 {
-    key_schedule::derive_key_block(master_secret, client_random, server_random, out) as u32
+    let derived = key_schedule::derive_key_block(master_secret, client_random, server_random, out);
+    number_of(derived) as u32
 }
 
 // Whether a key block has its size, and what is lent for each key too.
@@ -277,12 +264,12 @@ pub extern "C" fn noustrel_key_halves(
         client_enc_key,
         server_enc_key,
     ) {
-        return WRONG_SIZE as u32;
+        return Refusal::WrongSize.number() as u32;
     }
-    let client = RecordKeysCbc::client_half(key_block);
-    let server = RecordKeysCbc::server_half(key_block);
-    put_keys(client.keys, client_mac_key, client_enc_key);
-    put_keys(server.keys, server_mac_key, server_enc_key);
+    let client = RecordKeysCbc::client_half(key_block).unwrap();
+    let server = RecordKeysCbc::server_half(key_block).unwrap();
+    put_keys(client, client_mac_key, client_enc_key);
+    put_keys(server, server_mac_key, server_enc_key);
     DONE as u32
 }
 
@@ -308,7 +295,8 @@ pub extern "C" fn noustrel_finished(
     ensures { FinishedFor master_secret.now role transcript_hash.now out.old result out.new }
 {
     let side = role_of(role);
-    key_schedule::finished_verify_data(master_secret, side, transcript_hash, out) as u32
+    let derived = key_schedule::finished_verify_data(master_secret, side, transcript_hash, out);
+    number_of(derived) as u32
 }
 
 // A fresh running hash in the state lent, whatever stood there.
@@ -324,7 +312,7 @@ pub extern "C" fn noustrel_sm3_start(h: &mut Sm3)
 pub extern "C" fn noustrel_sm3_update(h: &mut Sm3, data: &[u8]) -> u32
     ensures { TakenFor h.old «data».now result h.new }
 {
-    sm3_lent::update(h, data) as u32
+    number_of(sm3_lent::update(h, data)) as u32
 }
 
 // The digest of all bytes so far into 32 bytes, the state as it was. Answer 9 and the digest as found where it has not
@@ -333,5 +321,5 @@ pub extern "C" fn noustrel_sm3_update(h: &mut Sm3, data: &[u8]) -> u32
 pub extern "C" fn noustrel_sm3_finish(h: &Sm3, digest: &mut [u8]) -> u32
     ensures { DigestedFor h.now digest.old result digest.new }
 {
-    sm3_lent::finish(h, digest) as u32
+    number_of(sm3_lent::finish(h, digest)) as u32
 }

@@ -1,10 +1,11 @@
 -- `border::noustrel_master_secret` meets its contract: it is `derive_master_secret`, and the answer is the same number in 32 bits.
 -- Assumes nothing.
+use Rattle.std.proofs.Common.{◌∙◌}
 use Rattle.border.specs.Border.{answer_for}
 use Rattle.border.proofs.noustrel_master_secret.Goals as goal
 
 pub returns : goal.returns
 unfolding answer_for
 returns c =
-    let p = c.derive_master_secret.ensures in
-    record { result = p.result; output = p.output }
+    let p = c.derive_master_secret-derived.ensures in
+    record { result = c.number_of.ensures ∙ p.result; output = p.output }

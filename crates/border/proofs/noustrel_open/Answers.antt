@@ -7,7 +7,7 @@ use Rattle.border.proofs.noustrel_open.Goals as goal
 pub returns-then-not-key_sizes : goal.returns-then-not-key_sizes
 returns-then-not-key_sizes c =
     let w = sym c.key_sizes.ensures ∙ c.if-not-key_sizes.true in
-    record { result = rw w; output = rw w; reported = rw w; counted = rw w }
+    record { result = rw (w, c.number.ensures); output = rw w; reported = rw w; counted = rw w }
 
 pub returns : goal.returns
 returns c =
