@@ -7,7 +7,7 @@ use Rattle.sm3.specs.State.{fresh, taken, digest_by}
 use Rattle.sm3.proofs.OneOutcome.{digest_by-one_outcome}
 use Rattle.sm3.proofs.Taken.{taken-fits}
 use Rattle.hmac.specs.declared.HmacSm3.{HmacSm3}
-use Rattle.hmac.specs.State.{Keyed, Verified, in_range, started, updated, finalized, keyed_of, verified_by}
+use Rattle.hmac.specs.State.{Keyed, Verified, in_range, started, updated, finalized, verified, keyed_of, verified_by}
 use Rattle.hmac.proofs.Range.{in_range_lem, outer_in}
 
 -- of an update
@@ -46,3 +46,9 @@ updated-in_range m d k =
 pub digest-ok : (m : HmacSm3) (r : Result (List ℕ) Refusal) → in_range m ≡ true → digest_by r ≡ finalized m → r ≡ Ok (finalized m).bytes
 unfolding finalized
 digest-ok m r k e = digest_by-one_outcome r (Ok (finalized m).bytes) (e ∙ rw k refl)
+
+-- nor a verification
+pub verify-ok : (m : HmacSm3) (e : List ℕ) (r : Result Bool Refusal) → in_range m ≡ true → verified_by r ≡ verified m e
+    → r ≡ Ok (verified m e).matches
+unfolding verified finalized
+verify-ok m e r k f = verified_by-one_outcome r (Ok (verified m e).matches) (f ∙ rw k refl)

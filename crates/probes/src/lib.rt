@@ -2,33 +2,26 @@
 // verification. A tag of another size than 32 is answer 9, before all else. Lengths are public; key, message and tag are not.
 #![tactic(auto)]
 
-ghost use Rattle.std.specs.Prelude.{◌≡◌, length};
+ghost use Rattle.std.specs.Prelude.{◌≡◌};
+ghost use Rattle.answers.specs.Answers.{number_of};
 ghost use Rattle.probes.specs.Probes.{answer_for, sized, filled, verified_for};
 ghost use Rattle.probes.specs.Promise.{MacedParts};
 
-use answers::{DONE, WRONG_SIZE};
+use answers::{Refusal, number_of};
 use hmac::HmacSm3;
-
-// Thirty-two bytes as an array.
-fn array_32(x: &[u8]) -> [u8; 32]
-    requires { length x.now ≡ 32 }
-    ensures { result ≡ x.now }
-{
-    let mut a = [0u8; 32];
-    words::copy_at(&mut a, 0, x);
-    a
-}
+use sm3::DIGEST_SIZE;
 
 // The bytes into out, if it has room for just them.
-fn put_tag(out: &mut [u8], bytes: [u8; 32]) -> u32
-    ensures answers { result ≡ answer_for (sized out.old) }
+#[tactic(auto, unfolding(crate::specs::Probes::answer_for, crate::specs::Probes::sized, crate::specs::Probes::filled))]
+fn put_tag(out: &mut [u8], bytes: [u8; DIGEST_SIZE]) -> Result<(), Refusal>
+    ensures answers { number_of result ≡ answer_for (sized out.old) }
     ensures leaves { out.new ≡ filled bytes out.old }
 {
-    if out.len() == sm3::DIGEST_SIZE {
-        words::copy_at(out, 0, &bytes);
-        return DONE as u32;
+    if out.len() != DIGEST_SIZE {
+        return Err(Refusal::WrongSize);
     }
-    WRONG_SIZE as u32
+    out.copy_from_slice(&bytes);
+    Ok(())
 }
 
 // 1 where the tag is the MAC of the message under the key, 0 where it is not, 9 where it has not 32 bytes.
@@ -36,14 +29,13 @@ fn put_tag(out: &mut [u8], bytes: [u8; 32]) -> u32
 pub extern "C" fn probe_hmac_verify(key: &[u8], message: &[u8], tag: &[u8]) -> u32
     ensures { result ≡ verified_for key.now message.now tag.now }
 {
-    if tag.len() != sm3::DIGEST_SIZE {
-        return WRONG_SIZE as u32;
+    if tag.len() != DIGEST_SIZE {
+        return Refusal::WrongSize.number() as u32;
     }
-    let expected = array_32(tag);
-    let keyed = HmacSm3::new(key);
-    let taken = keyed.mac.update(message);
-    let verified = taken.mac.verify(expected);
-    verified.matches as u32
+    let mut expected = [0u8; DIGEST_SIZE];
+    expected.copy_from_slice(tag);
+    let taken = HmacSm3::new(key).update(message).unwrap();
+    taken.verify(expected).unwrap() as u32
 }
 
 // The MAC of three parts one after the other, each taken in by an update of its own, into 32 bytes.
@@ -57,11 +49,6 @@ pub extern "C" fn probe_hmac_parts(
 ) -> u32
     ensures { MacedParts key.now first.now second.now third.now out.old result out.new }
 {
-    let keyed = HmacSm3::new(key);
-    let one = keyed.mac.update(first);
-    let two = one.mac.update(second);
-    let three = two.mac.update(third);
-    let tag = three.mac.finalize();
-    let bytes = tag.bytes;
-    put_tag(out, bytes)
+    let tag = hmac::hmac_sm3_parts(key, &[first, second, third]);
+    number_of(put_tag(out, tag)) as u32
 }
