@@ -9,7 +9,7 @@ use borrow.Author.Tests.{eqb-true, eq-eqb, ne_eqb}
 use lib.ListN.{length, take}
 use Rattle.words.specs.Bytes.{be}
 use Rattle.words.proofs.Tests.{both, untrue}
-use Rattle.record.specs.declared.Sealed.{Sealed}
+use Rattle.record.specs.Sealing.{Sealed}
 use Rattle.opening.specs.declared.Opened.{Opened}
 use Rattle.opening.specs.Given.{size}
 use Rattle.border.specs.Border.{has, key_sizes, keys_from, given_from, role_of}

@@ -1,11 +1,14 @@
 -- Each public contract of the library has one outcome: a bare equation by one law, a promise by the law beside it. Made
 -- by tools/calls. Assumes nothing.
 use Rattle.std.proofs.Common.{◌≡◌, sym, ◌∙◌}
+use Rattle.answers.proofs.Numbers.{number_of-one_outcome}
 use Rattle.words.proofs.OneOutcome.{Copied-one_outcome, Filled-one_outcome}
+use Rattle.sm3.proofs.OneOutcome.{update_of-one_outcome, digest_by-one_outcome}
 use Rattle.sm3_lent.proofs.OneOutcome.{Started-one_outcome, Taken-one_outcome, Digested-one_outcome}
 use Rattle.cbc.proofs.OneOutcome.{Enciphered-one_outcome, Deciphered-one_outcome}
+use Rattle.hmac.proofs.OneOutcome.{keyed_of-one_outcome, verified_by-one_outcome}
 use Rattle.key_schedule.proofs.OneOutcome.{MasterSecret-one_outcome, KeyBlock-one_outcome, Finished-one_outcome}
-use Rattle.record.proofs.OneOutcome.{Protected-one_outcome}
+use Rattle.record.proofs.OneOutcome.{half_by-one_outcome, Protected-one_outcome, reported-one_outcome}
 use Rattle.verdict.proofs.OneOutcome.{Cleared-one_outcome}
 use Rattle.steps.proofs.OneOutcome.{Step-one_outcome}
 use Rattle.opening.proofs.OneOutcome.{Deprotected-one_outcome}
@@ -25,6 +28,8 @@ equation-one_outcome x r s p q = p ∙ sym q
 pub outcomes : Outcomes
 outcomes =
     record {
+      «answers::Refusal::number» = λ self. equation-one_outcome _;
+      «answers::number_of» = λ answer. equation-one_outcome _;
       «words::rotate_left» = λ x n. equation-one_outcome _;
       «words::wrapping_add3» = λ x y z. equation-one_outcome _;
       «words::wrapping_add4» = λ w x y z. equation-one_outcome _;
@@ -47,12 +52,14 @@ outcomes =
       «sm3_compress::compress» = λ state block. equation-one_outcome _;
       «sm3::digest_of» = λ v. equation-one_outcome _;
       «sm3::Sm3::new» = equation-one_outcome _;
-      «sm3::Sm3::update» = λ self «data». equation-one_outcome _;
-      «sm3::Sm3::finalize» = λ self. equation-one_outcome _;
+      «sm3::Sm3::update» = λ self «data» r s p q. update_of-one_outcome self r s (p ∙ sym q);
+      «sm3::Sm3::finalize» = λ self r s p q. digest_by-one_outcome r s (p ∙ sym q);
       «sm3::hash» = λ message. equation-one_outcome _;
       «sm3_lent::start» = Started-one_outcome;
-      «sm3_lent::update» = λ h «data». Taken-one_outcome h «data»;
-      «sm3_lent::finish» = λ h digest. Digested-one_outcome h digest;
+      «sm3_lent::update» =
+          λ h «data» r s x y p q. let o = Taken-one_outcome h «data» (number_of r) (number_of s) x y p q in (number_of-one_outcome r s o.0, o.1);
+      «sm3_lent::finish» =
+          λ h digest r s x y p q. let o = Digested-one_outcome h digest (number_of r) (number_of s) x y p q in (number_of-one_outcome r s o.0, o.1);
       «sm3_lent::hash_two» = λ first second. equation-one_outcome _;
       «sm4_sbox::sbox_ct» = λ x. equation-one_outcome _;
       «sm4::Sm4Cipher::new» = λ key. equation-one_outcome _;
@@ -63,19 +70,23 @@ outcomes =
       «hmac::xor_pad» = λ block pad. equation-one_outcome _;
       «hmac::ct_eq» = λ a b. equation-one_outcome _;
       «hmac::HmacSm3::new» = λ key. equation-one_outcome _;
-      «hmac::HmacSm3::update» = λ self «data». equation-one_outcome _;
-      «hmac::HmacSm3::finalize» = λ self. equation-one_outcome _;
-      «hmac::HmacSm3::verify» = λ self expected. equation-one_outcome _;
+      «hmac::HmacSm3::update» = λ self «data» r s p q. keyed_of-one_outcome self r s (p ∙ sym q);
+      «hmac::HmacSm3::finalize» = λ self r s p q. digest_by-one_outcome r s (p ∙ sym q);
+      «hmac::HmacSm3::verify» = λ self expected r s p q. verified_by-one_outcome r s (p ∙ sym q);
+      «hmac::hmac_sm3_parts» = λ key parts. equation-one_outcome _;
       «hmac::hmac_sm3» = λ key message. equation-one_outcome _;
       «key_schedule::derive_master_secret» =
-          λ pre_master client_random server_random out _ _ _ _. MasterSecret-one_outcome;
-      «key_schedule::derive_key_block» = λ master_secret client_random server_random out _ _ _ _. KeyBlock-one_outcome;
-      «key_schedule::finished_verify_data» = λ master_secret role transcript_hash out _ _ _ _. Finished-one_outcome;
-      «record::RecordKeysCbc::client_half» = λ key_block. equation-one_outcome _;
-      «record::RecordKeysCbc::server_half» = λ key_block. equation-one_outcome _;
-      «record::RecordKeysCbc::from_key_block» = λ role key_block. equation-one_outcome _;
+          λ pre_master client_random server_random out r s x y p q. let o = MasterSecret-one_outcome p q in (number_of-one_outcome r s o.0, o.1);
+      «key_schedule::derive_key_block» =
+          λ master_secret client_random server_random out r s x y p q. let o = KeyBlock-one_outcome p q in (number_of-one_outcome r s o.0, o.1);
+      «key_schedule::finished_verify_data» =
+          λ master_secret role transcript_hash out r s x y p q. let o = Finished-one_outcome p q in (number_of-one_outcome r s o.0, o.1);
+      «record::RecordKeysCbc::client_half» = λ key_block r s p q. half_by-one_outcome r s (p ∙ sym q);
+      «record::RecordKeysCbc::server_half» = λ key_block r s p q. half_by-one_outcome r s (p ∙ sym q);
+      «record::RecordKeysCbc::from_key_block» = λ role key_block r s p q. half_by-one_outcome r s (p ∙ sym q);
       «record::record_header» = λ seq content_type version len. equation-one_outcome _;
-      «record::protect_cbc» = λ keys seq content_type version iv plaintext out _ _ _ _. Protected-one_outcome;
+      «record::protect_cbc» =
+          λ keys seq content_type version iv plaintext out r s x y p q. let o = Protected-one_outcome p q in (reported-one_outcome r s o.0, o.1);
       «sizes::size_answer» = λ record_len. equation-one_outcome _;
       «sizes::allowed» = λ n. equation-one_outcome _;
       «sizes::mac_steps» = λ n. equation-one_outcome _;

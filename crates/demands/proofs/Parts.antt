@@ -17,9 +17,9 @@ use Rattle.words.proofs.Agree.{agree_refl, agree-eq}
 use Rattle.words.proofs.Bytes.{be-number, be_wrap_64}
 use Rattle.words.proofs.Lists.{get_or-table, get_or-block, block_join}
 use Rattle.words.proofs.Tests.{both, untrue, left_fails, right_fails}
-use Rattle.sm3.specs.declared.Digest.{Digest}
+use Rattle.sm3.specs.State.{Digest}
 use Rattle.sm3.specs.declared.Sm3.{Sm3}
-use Rattle.sm3.specs.declared.Updated.{Updated}
+use Rattle.sm3.specs.State.{Updated}
 use Rattle.sm3.specs.Cutting.{joined}
 use Rattle.sm3.specs.Standard.{IV, zeros, count, ending, iteration, bytes_of, SM3}
 use Rattle.sm3.specs.State.{hashed, updated, finalized}
@@ -28,7 +28,7 @@ use Rattle.sm3.proofs.Cutting.{cut}
 use Rattle.sm3.proofs.Ending.{count_wraps}
 use Rattle.sm3.proofs.Standard.{hash-standard}
 use Rattle.hmac.specs.declared.HmacSm3.{HmacSm3}
-use Rattle.hmac.specs.declared.Keyed.{Keyed}
+use Rattle.hmac.specs.State.{Keyed}
 use Rattle.hmac.specs.Cutting.{fed as fedMac}
 use Rattle.hmac.specs.Rfc2104.{HMAC}
 use Rattle.hmac.specs.State.{hash_bytes, started, in_range, verified, mac, updated as updatedMac, finalized as finalizedMac}

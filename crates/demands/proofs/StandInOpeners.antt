@@ -19,7 +19,7 @@ use Rattle.cbc.specs.Cbc.{cbc_enc}
 use Rattle.cbc.proofs.Cbc.{bytes-cbc_enc}
 use Rattle.cbc.proofs.Sm4.{enciphers}
 use Rattle.record.specs.declared.RecordKeysCbc.{RecordKeysCbc}
-use Rattle.record.specs.declared.Sealed.{Sealed}
+use Rattle.record.specs.Sealing.{Sealed}
 use Rattle.record.specs.KeyBlock.{zero_keys}
 use Rattle.record.specs.Opened.{last_byte}
 use Rattle.record.specs.Standard.{tag_of, body_of, pad_of, sealed_by, sealed_record, sealed_length}

@@ -4,7 +4,7 @@ use Rattle.std.specs.Prelude.{List, ◌↔◌, ◌≡◌, ℕ, suc, ◌-◌, ◌
 use Rattle.answers.specs.Answers.{Done, WrongSize}
 use Rattle.words.specs.Bytes.{Bytes, be}
 use Rattle.key_schedule.specs.declared.TlcpRole.TheVariants.{Client, Server}
-use Rattle.record.specs.declared.Sealed.{Sealed}
+use Rattle.record.specs.Sealing.{Sealed}
 use Rattle.record.specs.Limits.{iv_len, mac_len}
 use Rattle.record.specs.Standard.{sealed_length}
 use Rattle.sizes.specs.Sizes.{total_steps}

@@ -7,7 +7,7 @@ use Rattle.words.specs.Bytes.{Bytes}
 use Rattle.words.specs.Lists.{put}
 use Rattle.sm4.specs.Block.{Block}
 use Rattle.record.specs.declared.RecordKeysCbc.{RecordKeysCbc}
-use Rattle.record.specs.declared.Sealed.{Sealed}
+use Rattle.record.specs.Sealing.{Sealed}
 use Rattle.record.specs.Limits.{iv_len}
 use Rattle.record.specs.Sealing.{report_of, output_of as sealedOutput}
 use Rattle.record.specs.Standard.{body_of, sealed_record, sealed_length}

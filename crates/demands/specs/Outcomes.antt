@@ -1,30 +1,38 @@
 -- One outcome: what each public function of the library states, given what stood at its entry, is met by one outcome
 -- only. Made by tools/calls from the text of each `ensures`; a crate that this one does not stand on has its laws
 -- beside its promises. Assumes nothing.
-use Rattle.std.specs.Prelude.{◌≡◌, ℕ, Bool, List, ◌%◌, ◌+◌, ◌^◌, ◌-◌, ◌/◌, eqb, ltb, ◌++◌, replicate, take, length}
+use Rattle.std.specs.Prelude.{◌≡◌, ℕ, Bool, List, Result, ◌%◌, ◌+◌, ◌^◌, ◌-◌, ◌/◌, eqb, ltb, ◌++◌, replicate, take}
+use Rattle.std.specs.Prelude.{length}
+use Rattle.std.specs.Borrow.{Bor}
+use Rattle.answers.specs.Answers.{number as answers-number, number_of}
+use Rattle.answers.specs.declared.Refusal.{Refusal}
 use Rattle.words.specs.Word.{◌⋘◌}
 use Rattle.words.specs.Promise.{Copied, Filled}
 use Rattle.words.specs.Choice.{bit, chosen}
-use Rattle.words.specs.Bytes.{number, be}
+use Rattle.words.specs.Bytes.{number as words-number, be}
 use Rattle.words.specs.Lists.{xor_each, agree}
 use Rattle.sm3_compress.specs.Standard.{CF}
 use Rattle.sm3.specs.Standard.{bytes_of}
-use Rattle.sm3.specs.State.{fresh as sm3-fresh, updated as sm3-updated, finalized as sm3-finalized, hashed}
+use Rattle.sm3.specs.State.{fresh as sm3-fresh, update_of, updated as sm3-updated, digest_by}
+use Rattle.sm3.specs.State.{finalized as sm3-finalized, hashed}
 use Rattle.sm3.specs.declared.Sm3.{Sm3}
+use Rattle.sm3.specs.Cutting.{joined}
 use Rattle.sm3_lent.specs.Promise.{Started, Taken, Digested}
 use Rattle.sm4_sbox.specs.Standard.{Sbox}
 use Rattle.sm4.specs.Standard.{cipher_of, encrypt, decrypt}
 use Rattle.sm4.specs.declared.Sm4Cipher.{Sm4Cipher}
 use Rattle.cbc.specs.Promise.{Enciphered, Deciphered}
 use Rattle.hmac.specs.Rfc2104.{B}
-use Rattle.hmac.specs.State.{started as hmac-started, updated as hmac-updated, finalized as hmac-finalized, verified}
-use Rattle.hmac.specs.State.{mac}
+use Rattle.hmac.specs.State.{started as hmac-started, keyed_of, updated as hmac-updated, finalized as hmac-finalized}
+use Rattle.hmac.specs.State.{verified_by, verified, mac}
 use Rattle.hmac.specs.declared.HmacSm3.{HmacSm3}
+use Rattle.hmac.specs.Cutting.{lent}
 use Rattle.key_schedule.specs.Promise.{MasterSecret, KeyBlock, Finished}
 use Rattle.key_schedule.specs.declared.TlcpRole.{TlcpRole}
-use Rattle.record.specs.KeyBlock.{halved_by, client_keys, server_keys, keys_of}
+use Rattle.record.specs.KeyBlock.{half_by, halved_by, client_keys, server_keys, keys_of}
 use Rattle.record.specs.Standard.{header}
 use Rattle.record.specs.Promise.{Protected}
+use Rattle.record.specs.Sealing.{reported}
 use Rattle.record.specs.declared.RecordKeysCbc.{RecordKeysCbc}
 use Rattle.sizes.specs.Sizes.{size_answer, allowed as allowedBody, mac_steps, total_steps}
 use Rattle.padding.specs.Scan.{checked}
@@ -50,6 +58,10 @@ use Rattle.lines.specs.declared.Judged.{Judged}
 abbrev pub Equation : {R : Type 0} → R → Type 0
 Equation {R} x = (r s : R) → r ≡ x → s ≡ x → r ≡ s
 
+-- the result is one, where what it says in the scope's numbers and values is given
+abbrev pub Reading : {R S : Type 0} → (R → S) → S → Type 0
+Reading {R} {S} f x = (r s : R) → f r ≡ x → f s ≡ x → r ≡ s
+
 -- one thing promised, and it is one
 abbrev pub One : {A : Type 0} → (A → Type 0) → Type 0
 One {A} P = (x y : A) → P x → P y → x ≡ y
@@ -74,6 +86,9 @@ Five {A} {B} {C} {D} {E} P = (a b : A) (x y : B) (l k : C) (m n : D) (p q : E) �
 
 -- a line for each public function, under its crate and name
 pub record Outcomes : Type 0 where
+  -- answers
+  pub «answers::Refusal::number» : (self : Refusal) → Equation (answers-number self)
+  pub «answers::number_of» : {T : Type 0} (answer : Result T Refusal) → Equation (number_of answer)
   -- words
   pub «words::rotate_left» : (x n : ℕ) → Equation (x ⋘ (n % 32))
   pub «words::wrapping_add3» : (x y z : ℕ) → Equation ((x + y + z) % 2 ^ 32)
@@ -90,9 +105,9 @@ pub record Outcomes : Type 0 where
   pub «masks::select_u32» : (a b choice : ℕ) → Equation (chosen choice a b)
   pub «masks::select_usize» : (a b choice : ℕ) → Equation (chosen choice a b)
   -- big_endian
-  pub «big_endian::u16_from_be_bytes» : (b : List ℕ) → Equation (number b)
-  pub «big_endian::u32_from_be_bytes» : (b : List ℕ) → Equation (number b)
-  pub «big_endian::u64_from_be_bytes» : (b : List ℕ) → Equation (number b)
+  pub «big_endian::u16_from_be_bytes» : (b : List ℕ) → Equation (words-number b)
+  pub «big_endian::u32_from_be_bytes» : (b : List ℕ) → Equation (words-number b)
+  pub «big_endian::u64_from_be_bytes» : (b : List ℕ) → Equation (words-number b)
   pub «big_endian::u16_to_be_bytes» : (x : ℕ) → Equation (be 2 x)
   pub «big_endian::u32_to_be_bytes» : (x : ℕ) → Equation (be 4 x)
   pub «big_endian::u64_to_be_bytes» : (x : ℕ) → Equation (be 8 x)
@@ -101,14 +116,14 @@ pub record Outcomes : Type 0 where
   -- sm3
   pub «sm3::digest_of» : (v : List ℕ) → Equation (bytes_of v)
   pub «sm3::Sm3::new» : Equation sm3-fresh
-  pub «sm3::Sm3::update» : (self : Sm3) («data» : List ℕ) → Equation (sm3-updated self «data»)
-  pub «sm3::Sm3::finalize» : (self : Sm3) → Equation (sm3-finalized self)
-  pub «sm3::hash» : (message : List ℕ) → Equation (hashed message)
+  pub «sm3::Sm3::update» : (self : Sm3) («data» : List ℕ) → Reading (update_of self) (sm3-updated self «data»)
+  pub «sm3::Sm3::finalize» : (self : Sm3) → Reading digest_by (sm3-finalized self)
+  pub «sm3::hash» : (message : List ℕ) → Equation (hashed message).bytes
   -- sm3_lent
   pub «sm3_lent::start» : One Started
-  pub «sm3_lent::update» : (h : Sm3) («data» : List ℕ) → Two (Taken h «data»)
-  pub «sm3_lent::finish» : (h : Sm3) (digest : List ℕ) → Two (Digested h digest)
-  pub «sm3_lent::hash_two» : (first second : List ℕ) → Equation (hashed (first ++ second))
+  pub «sm3_lent::update» : (h : Sm3) («data» : List ℕ) → Two (λ r. Taken h «data» (number_of r))
+  pub «sm3_lent::finish» : (h : Sm3) (digest : List ℕ) → Two (λ r. Digested h digest (number_of r))
+  pub «sm3_lent::hash_two» : (first second : List ℕ) → Equation (hashed (first ++ second)).bytes
   -- sm4_sbox
   pub «sm4_sbox::sbox_ct» : (x : ℕ) → Equation (Sbox x)
   -- sm4
@@ -122,27 +137,29 @@ pub record Outcomes : Type 0 where
   -- hmac
   pub «hmac::xor_pad» : (block : List ℕ) (pad : ℕ) → Equation (xor_each block (replicate B pad))
   pub «hmac::ct_eq» : (a b : List ℕ) → Equation (bit (agree a b))
-  pub «hmac::HmacSm3::new» : (key : List ℕ) → Equation (hmac-started key)
-  pub «hmac::HmacSm3::update» : (self : HmacSm3) («data» : List ℕ) → Equation (hmac-updated self «data»)
-  pub «hmac::HmacSm3::finalize» : (self : HmacSm3) → Equation (hmac-finalized self)
-  pub «hmac::HmacSm3::verify» : (self : HmacSm3) (expected : List ℕ) → Equation (verified self expected)
-  pub «hmac::hmac_sm3» : (key message : List ℕ) → Equation (mac key message)
+  pub «hmac::HmacSm3::new» : (key : List ℕ) → Equation (hmac-started key).mac
+  pub «hmac::HmacSm3::update» : (self : HmacSm3) («data» : List ℕ) → Reading (keyed_of self) (hmac-updated self «data»)
+  pub «hmac::HmacSm3::finalize» : (self : HmacSm3) → Reading digest_by (hmac-finalized self)
+  pub «hmac::HmacSm3::verify» : (self : HmacSm3) (expected : List ℕ) → Reading verified_by (verified self expected)
+  pub «hmac::hmac_sm3_parts» : (key : List ℕ) (parts : List (Bor (List ℕ)))
+      → Equation (mac key (joined (lent parts))).bytes
+  pub «hmac::hmac_sm3» : (key message : List ℕ) → Equation (mac key message).bytes
   -- key_schedule
   pub «key_schedule::derive_master_secret» : (pre_master client_random server_random out : List ℕ)
-      → Two (MasterSecret pre_master client_random server_random out)
+      → Two (λ r. MasterSecret pre_master client_random server_random out (number_of r))
   pub «key_schedule::derive_key_block» : (master_secret client_random server_random out : List ℕ)
-      → Two (KeyBlock master_secret client_random server_random out)
+      → Two (λ r. KeyBlock master_secret client_random server_random out (number_of r))
   pub «key_schedule::finished_verify_data» : (master_secret : List ℕ) (role : TlcpRole) (transcript_hash out : List ℕ)
-      → Two (Finished master_secret role transcript_hash out)
+      → Two (λ r. Finished master_secret role transcript_hash out (number_of r))
   -- record
-  pub «record::RecordKeysCbc::client_half» : (key_block : List ℕ) → Equation (halved_by client_keys key_block)
-  pub «record::RecordKeysCbc::server_half» : (key_block : List ℕ) → Equation (halved_by server_keys key_block)
+  pub «record::RecordKeysCbc::client_half» : (key_block : List ℕ) → Reading half_by (halved_by client_keys key_block)
+  pub «record::RecordKeysCbc::server_half» : (key_block : List ℕ) → Reading half_by (halved_by server_keys key_block)
   pub «record::RecordKeysCbc::from_key_block» : (role : TlcpRole) (key_block : List ℕ)
-      → Equation (halved_by (keys_of role) key_block)
+      → Reading half_by (halved_by (keys_of role) key_block)
   pub «record::record_header» : (seq content_type : ℕ) (version : List ℕ) (len : ℕ)
       → Equation (header seq content_type version len)
   pub «record::protect_cbc» : (keys : RecordKeysCbc) (seq content_type : ℕ) (version iv plaintext out : List ℕ)
-      → Two (Protected keys seq content_type version iv plaintext out)
+      → Two (λ r. Protected keys seq content_type version iv plaintext out (reported r))
   -- sizes
   pub «sizes::size_answer» : (record_len : ℕ) → Equation (size_answer record_len)
   pub «sizes::allowed» : (n : ℕ) → Equation (allowedBody n)

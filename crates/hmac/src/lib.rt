@@ -3,11 +3,12 @@
 // Lengths and fills are public; the key, the message and the digests are not branched on.
 #![tactic(auto)]
 
-ghost use Rattle.std.specs.Prelude.{◌≡◌, replicate, map};
+ghost use Rattle.std.specs.Prelude.{◌≡◌, replicate};
 ghost use Rattle.words.specs.Choice.{bit};
 ghost use Rattle.words.specs.Lists.{xor_each, agree};
 ghost use Rattle.sm3.specs.Cutting.{joined};
 ghost use Rattle.sm3.specs.State.{fresh, taken, digest_by};
+ghost use Rattle.hmac.specs.Cutting.{lent};
 ghost use Rattle.hmac.specs.Rfc2104.{B, K'};
 ghost use Rattle.hmac.specs.State.{hash_bytes, started, updated, finalized, verified, mac, keyed_of, verified_by};
 
@@ -112,7 +113,7 @@ impl HmacSm3 {
 
 // The MAC of a message in parts, which the running MAC takes one after the other: they are never joined.
 pub fn hmac_sm3_parts(key: &[u8], parts: &[&[u8]]) -> [u8; DIGEST_SIZE]
-    ensures { result ≡ (mac key.now (joined (map (λ part. part.now) parts.now))).bytes }
+    ensures { result ≡ (mac key.now (joined (lent parts.now))).bytes }
 {
     let mut m = HmacSm3::new(key);
     for part in parts {

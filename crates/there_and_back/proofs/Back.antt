@@ -14,7 +14,7 @@ use Rattle.words.specs.Bytes.{Bytes}
 use Rattle.words.proofs.Lists.{length-put}
 use Rattle.sm4.specs.Block.{Block}
 use Rattle.record.specs.declared.RecordKeysCbc.{RecordKeysCbc}
-use Rattle.record.specs.declared.Sealed.{Sealed}
+use Rattle.record.specs.Sealing.{Sealed}
 use Rattle.record.specs.Limits.{max_plaintext}
 use Rattle.record.specs.Promise.{Protected}
 use Rattle.record.specs.Sealing.{answer_of, report_of, output_of as sealedOutput}
