@@ -10,42 +10,28 @@ ghost use Rattle.words.specs.Promise.{Copied, Filled};
 pub fn rotate_left(x: u32, n: u32) -> u32
     ensures { result ≡ x ⋘ (n % 32) }
 {
-    let k = n % 32;
-    (x << k) | (x >> ((32 - k) % 32))
+    x.rotate_left(n)
 }
 
 // The sum of three words modulo 2^32.
 pub fn wrapping_add3(x: u32, y: u32, z: u32) -> u32
     ensures { result ≡ (x + y + z) % 2 ^ 32 }
 {
-    std::num::wrapping_add_u32(std::num::wrapping_add_u32(x, y), z)
+    x.wrapping_add(y).wrapping_add(z)
 }
 
 // The sum of four words modulo 2^32.
 pub fn wrapping_add4(w: u32, x: u32, y: u32, z: u32) -> u32
     ensures { result ≡ (w + x + y + z) % 2 ^ 32 }
 {
-    std::num::wrapping_add_u32(wrapping_add3(w, x, y), z)
+    wrapping_add3(w, x, y).wrapping_add(z)
 }
 
 // a / b rounded up; 0 where b is 0.
 pub fn div_ceil(a: usize, b: usize) -> usize
     ensures { result ≡ (a + (b - 1)) / b }
 {
-    if b == 0 {
-        0
-    } else if a % b == 0 {
-        a / b
-    } else {
-        a / b + 1
-    }
-}
-
-// The smaller of two lengths, which are public.
-fn smaller(a: usize, b: usize) -> usize
-    ensures { result ≡ min a b }
-{
-    if a <= b { a } else { b }
+    if b == 0 { 0 } else { a.div_ceil(b) }
 }
 
 // src laid over out from index at on, as much of it as there is room for.
@@ -53,10 +39,8 @@ pub fn copy_at(out: &mut [u8], at: usize, src: &[u8])
     ensures { Copied out.old at src.now out.new }
 {
     if at < out.len() {
-        let n = smaller(src.len(), out.len() - at);
-        for j in 0..n {
-            out[at + j] = src[j];
-        }
+        let n = src.len().min(out.len() - at);
+        out[at..at + n].copy_from_slice(&src[..n]);
     }
 }
 
@@ -65,9 +49,7 @@ pub fn fill_at(out: &mut [u8], at: usize, count: usize, byte: u8)
     ensures { Filled out.old at count byte out.new }
 {
     if at < out.len() {
-        let n = smaller(count, out.len() - at);
-        for j in 0..n {
-            out[at + j] = byte;
-        }
+        let n = count.min(out.len() - at);
+        out[at..at + n].fill(byte);
     }
 }
