@@ -2,9 +2,81 @@
 // copies and fills. Definitions in specs/, laws for the crates above in proofs/.
 #![tactic(auto)]
 
-ghost use Rattle.std.specs.Prelude.{◌≡◌, ◌+◌, ◌-◌, ◌/◌, ◌%◌, ◌^◌, min};
+ghost use Rattle.std.specs.Prelude.{◌≡◌, ◌+◌, ◌-◌, ◌/◌, ◌%◌, ◌^◌, bit_xor};
+ghost use Rattle.words.specs.Choice.{chosen};
+ghost use Rattle.words.specs.Lists.{zip_with};
 ghost use Rattle.words.specs.Word.{◌⋘◌};
 ghost use Rattle.words.specs.Promise.{Copied, Filled};
+
+// What `xor_each`, and `select` and `ct_eq` of masks, need of a type.
+pub trait Bits: Copy + Ord {
+    ghost none: { Self };
+
+    ghost xored: { Self → Self → Self };
+
+    // self ^ other: what is put on twice is gone.
+    fn xor(self, other: Self) -> Self
+        ensures value { result ≡ xored self other }
+        ensures twice { xored self (xored self other) ≡ other }
+        ensures alone { xored self none ≡ self };
+
+    // self where the lowest bit of choice is 1, else no bit of it: all ones or all zeros as a mask, and no branch.
+    fn masked(self, choice: u8) -> Self
+        ensures { result ≡ chosen choice none self };
+}
+
+impl Bits for u8 {
+    ghost none = { 0 };
+
+    ghost xored = { bit_xor };
+
+    fn xor(self, other: u8) -> u8 {
+        self ^ other
+    }
+
+    fn masked(self, choice: u8) -> u8 {
+        self & ((choice % 2) * 0xff)
+    }
+}
+
+impl Bits for u32 {
+    ghost none = { 0 };
+
+    ghost xored = { bit_xor };
+
+    fn xor(self, other: u32) -> u32 {
+        self ^ other
+    }
+
+    fn masked(self, choice: u8) -> u32 {
+        self & ((choice % 2) as u32 * 0xffff_ffff)
+    }
+}
+
+impl Bits for usize {
+    ghost none = { 0 };
+
+    ghost xored = { bit_xor };
+
+    fn xor(self, other: usize) -> usize {
+        self ^ other
+    }
+
+    fn masked(self, choice: u8) -> usize {
+        self & ((choice % 2) as usize * 0xffff_ffff_ffff_ffff)
+    }
+}
+
+// Each element of a with that of b.
+pub fn xor_each<T: Bits, const N: usize>(a: [T; N], b: [T; N]) -> [T; N]
+    ensures { result ≡ zip_with T.xored a b }
+{
+    let mut out = b;
+    for (i, x) in out.iter_mut().enumerate() {
+        *x = a[i].xor(*x);
+    }
+    out
+}
 
 // x rotated left by n, taken modulo 32.
 pub fn rotate_left(x: u32, n: u32) -> u32

@@ -16,4 +16,4 @@ shifts x (suc k) h b =
     rw e (rotl-or x (suc k) (32 - suc k) (omega arith) h)
 
 pub returns : goal.returns
-returns c = let e = shifts c.args.x (c.args.n % 32) c.ranges.x.fits (omega arith) in cc
+returns c = c.rotate_left.ensures ∙ shifts c.args.x (c.args.n % 32) c.ranges.x.fits (omega arith)
