@@ -2,6 +2,7 @@
 -- Assumes nothing.
 use Rattle.std.proofs.Common.{◌≡◌, ℕ, zero, suc, ◌+◌, ◌-◌, ◌*◌, ◌<◌, ◌≤◌, Bool, true, false, cond, ◌⊎◌, List, [], ◌∷◌, ◌++◌, length, get_or, take, drop, set, replicate, sym, refl, ap, ◌∙◌, ap₂, inl, inr, append_assoc, append-nil, le_of_eq, le_of_suc-le-suc, not-suc-le-zero, add-zero, mul-le-mul_right, suc-mul, suc-add, eq-or-lt_of_le, zero-add, zero-mul, suc-ne-zero, add-one, arith, length-append, length-drop, drop_of_length-le, length-take, get_or-drop, take_all, get_or-take, take-suc, drop-drop, take-suc-set, take_at, get_or-append-add, ext_get_or, take-add, drop_at}
 use native.Mathlib.Nat.{suc_inj}
+use Rattle.std.specs.Simd.{first_chunks}
 use lib.Bits.{bit_xor}
 use lib.ListN.{length-replicate}
 use lib.ListN.{get_or-replicate, get_or-append}
@@ -147,6 +148,14 @@ block-four l i h =
       get_or-block 4 i l 2 0 (omega arith),
       get_or-block 4 i l 3 0 (omega arith),
     )
+
+-- chunk i of k is block i
+pub get_or-first_chunks : (w k i : ℕ) (l : List ℕ) (d : List ℕ) → i < k → get_or (first_chunks w k l) i d ≡ block w i l
+get_or-first_chunks w zero i l d h = absurd (omega arith)
+get_or-first_chunks w (suc k) zero l d h = rw (zero-mul w)
+get_or-first_chunks w (suc k) (suc i) l d h =
+    get_or-first_chunks w k i (drop w l) d (omega arith)
+    ∙ ap (take w) (drop-drop (i * w) w l ∙ ap (λ (n : ℕ). drop n l) (omega (arith, suc-mul i w)))
 
 -- ---- one list laid over another
 
