@@ -78,7 +78,7 @@ pub fn ct_eq(a: [u8; DIGEST_SIZE], b: [u8; DIGEST_SIZE]) -> u8
     for i in 0..DIGEST_SIZE {
         differ = differ | (a[i] ^ b[i]);
     }
-    masks::ct_eq_u8(differ, 0)
+    masks::ct_eq(differ, 0)
 }
 
 impl HmacSm3 {
@@ -149,7 +149,7 @@ impl HmacSm3 {
         let computed = self.finalize();
         let answer = computed.answer;
         let bytes = computed.bytes;
-        let yes = masks::ct_eq_u8(answer, DONE) & ct_eq(bytes, expected);
+        let yes = masks::ct_eq(answer, DONE) & ct_eq(bytes, expected);
         Verified {
             answer,
             matches: yes == 1,

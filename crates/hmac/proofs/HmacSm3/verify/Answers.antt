@@ -16,5 +16,5 @@ unfolding verified
 returns c =
     let e : List ℕ = c.args.expected in
     let x = c.finalize-computed in
-    ap (λ (t : Bool). record { answer = x.result.answer; matches = t }) (verdict x.result e c.ct_eq_u8.ensures c.ct_eq.ensures)
+    ap (λ (t : Bool). record { answer = x.result.answer; matches = t }) (verdict x.result e c.ct_eq.ensures c.ct_eq-2.ensures)
     ∙ ap (λ (d : Digest). record { answer = d.answer; matches = eqb d.answer Done && agree d.bytes e }) x.ensures
