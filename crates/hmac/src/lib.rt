@@ -65,7 +65,7 @@ pub fn ct_eq(a: [u8; DIGEST_SIZE], b: [u8; DIGEST_SIZE]) -> u8
     for i in 0..DIGEST_SIZE {
         differ = differ | (a[i] ^ b[i]);
     }
-    masks::ct_eq_u8(differ, 0)
+    masks::ct_eq(differ, 0)
 }
 
 impl HmacSm3 {

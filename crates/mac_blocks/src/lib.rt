@@ -12,7 +12,7 @@ ghost use Rattle.hmac.specs.Rfc2104.{K'};
 ghost use Rattle.mac_blocks.specs.Schedule.{byte_at, schedule, inner_key, inner_block, outer_key, outer_digest};
 
 use hmac::{IPAD, OPAD};
-use masks::select_u32;
+use masks::select;
 use sm3::BLOCK_SIZE;
 use sm3_compress::compress;
 
@@ -45,7 +45,7 @@ pub fn inner_key(mac_key: [u8; 32]) -> [u32; 8]
 fn held_of(plaintext_len: usize, lent: usize) -> usize
     ensures { result ≡ min plaintext_len lent }
 {
-    masks::select_usize(plaintext_len, lent, masks::ct_lt_usize(lent, plaintext_len))
+    masks::select(plaintext_len, lent, masks::ct_lt_usize(lent, plaintext_len))
 }
 
 // 1 where block b is the final one, which has room for the count behind the text and 0x80; else 0. The block's number is
@@ -83,8 +83,8 @@ fn text_byte(header: [u8; 13], data: &[u8], held: usize, p: usize) -> u8
     ensures { result ≡ get_or ((header ++ take held «data».now) ++ (0x80 ∷ [])) p 0 }
 {
     let end = HEADER_LEN + held;
-    let text = masks::select_u8(0, candidate(header, data, p), masks::ct_lt_usize(p, end));
-    masks::select_u8(text, 0x80, masks::ct_eq_usize(p, end))
+    let text = masks::select(0, candidate(header, data, p), masks::ct_lt_usize(p, end));
+    masks::select(text, 0x80, masks::ct_eq(p, end))
 }
 
 // The count of all bytes where block b is the final one, else zeros. It is chosen once for a block: a choice inside the loop over
@@ -95,7 +95,7 @@ fn count_in(held: usize, b: usize) -> [u8; 8]
 {
     // the key's block is counted too
     let bits = (BLOCK_SIZE + HEADER_LEN + held) << 3;
-    let chosen = masks::select_usize(0, bits, is_final(held, b));
+    let chosen = masks::select(0, bits, is_final(held, b));
     big_endian::u64_to_be_bytes(chosen as u64)
 }
 
@@ -135,7 +135,7 @@ fn keep(kept: [u32; 8], words: [u32; 8], choice: u8) -> [u32; 8]
 {
     let mut out = [0u32; 8];
     for i in 0..8 {
-        out[i] = select_u32(kept[i], words[i], choice);
+        out[i] = select(kept[i], words[i], choice);
     }
     out
 }

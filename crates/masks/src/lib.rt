@@ -5,15 +5,11 @@
 ghost use Rattle.std.specs.Prelude.{◌≡◌, eqb, ltb};
 ghost use Rattle.words.specs.Choice.{bit, chosen};
 
-// 1 where a and b are equal, else 0. A comparison taken as a number: no branch on either.
-pub fn ct_eq_u8(a: u8, b: u8) -> u8
-    ensures { result ≡ bit (eqb a b) }
-{
-    (a == b) as u8
-}
+use words::Bits;
 
-pub fn ct_eq_usize(a: usize, b: usize) -> u8
-    ensures { result ≡ bit (eqb a b) }
+// 1 where a and b are equal, else 0. A comparison taken as a number: no branch on either.
+pub fn ct_eq<T: Bits>(a: T, b: T) -> u8
+    ensures { result ≡ bit (T.eq a b) }
 {
     (a == b) as u8
 }
@@ -34,24 +30,9 @@ pub fn ct_is_zero_usize(d: usize) -> u8
     ((0x2_0000_0000 - halves) >> 33) as u8
 }
 
-// a where the lowest bit of choice is 0, b where it is 1: all ones or all zeros as a mask, and no branch.
-pub fn select_u8(a: u8, b: u8, choice: u8) -> u8
+// a where the lowest bit of choice is 0, b where it is 1: the bits in which they differ are put on a, or none, and no branch.
+pub fn select<T: Bits>(a: T, b: T, choice: u8) -> T
     ensures { result ≡ chosen choice a b }
 {
-    let mask = (choice % 2) * 0xff;
-    a ^ (mask & (a ^ b))
-}
-
-pub fn select_u32(a: u32, b: u32, choice: u8) -> u32
-    ensures { result ≡ chosen choice a b }
-{
-    let mask = ((choice % 2) as u32) * 0xffff_ffff;
-    a ^ (mask & (a ^ b))
-}
-
-pub fn select_usize(a: usize, b: usize, choice: u8) -> usize
-    ensures { result ≡ chosen choice a b }
-{
-    let mask = ((choice % 2) as usize) * 0xffff_ffff_ffff_ffff;
-    a ^ (mask & (a ^ b))
+    a.xor(a.xor(b).masked(choice))
 }

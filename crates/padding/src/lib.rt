@@ -28,7 +28,7 @@ fn differs(byte: u8, padlen: u8, i: usize) -> u8
     ensures { result ≡ cond (ltb i (padlen + 1)) (byte ⊕ padlen) 0 }
 {
     let in_pad = masks::ct_lt_usize(i, (padlen as usize) + 1);
-    masks::select_u8(0, byte ^ padlen, in_pad)
+    masks::select(0, byte ^ padlen, in_pad)
 }
 
 // The differences of the bytes that the padding reaches, ORed: 0 where a padding that fits is good. The window is public: the
@@ -58,10 +58,10 @@ pub fn check_tls_padding_ct(body: &[u8]) -> Padding
     let padlen = body[n - 1];
     let p = padlen as usize;
     let fits = masks::ct_lt_usize(p, n - MAC_LEN);
-    let pad_ok = fits & masks::ct_eq_u8(differences(body, padlen), 0);
+    let pad_ok = fits & masks::ct_eq(differences(body, padlen), 0);
     // p may be above what is left of the body: it is taken off only where the padding is good.
     let most = n - (MAC_LEN + 1);
-    let pad = masks::select_usize(0, p, pad_ok);
+    let pad = masks::select(0, p, pad_ok);
     let held = most - pad;
     Padding { pad_ok, held }
 }

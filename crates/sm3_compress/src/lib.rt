@@ -2,11 +2,11 @@
 // No branch and no index depends on the words or the block: j is public.
 #![tactic(auto)]
 
-ghost use Rattle.std.specs.Prelude.{◌≡◌, ◌≤◌, ◌<◌, take};
-ghost use Rattle.words.specs.Lists.{xor_each};
+ghost use Rattle.std.specs.Prelude.{◌≡◌, ◌+◌, ◌*◌, ◌≤◌, ◌<◌};
 ghost use Rattle.sm3_compress.specs.Rounds.{rounds_from};
-ghost use Rattle.sm3_compress.specs.Standard.{T, FF, GG, P0, P1, at, word, words, recurrence, W, W', round, rounds, CF};
+ghost use Rattle.sm3_compress.specs.Standard.{T, FF, GG, P0, P1, at, words, recurrence, W, W', round, rounds, CF};
 
+use std::array;
 use words::{rotate_left, wrapping_add3, wrapping_add4};
 
 const T_J_LOW: u32 = 0x79cc_4519;
@@ -55,14 +55,7 @@ fn p1(x: u32) -> u32
 fn one_round(v: [u32; 8], j: u32, w: u32, wp: u32) -> [u32; 8]
     ensures { result ≡ round j v w wp }
 {
-    let a = v[0];
-    let b = v[1];
-    let c = v[2];
-    let d = v[3];
-    let e = v[4];
-    let f = v[5];
-    let g = v[6];
-    let h = v[7];
+    let [a, b, c, d, e, f, g, h] = v;
     let a12 = rotate_left(a, 12);
     let ss1 = rotate_left(wrapping_add3(a12, e, rotate_left(t(j), j)), 7);
     let ss2 = ss1 ^ a12;
@@ -74,29 +67,12 @@ fn one_round(v: [u32; 8], j: u32, w: u32, wp: u32) -> [u32; 8]
     [tt1, a, b9, c, e_next, e, f19, g]
 }
 
-// Word i of the block.
-fn word_at(block: &[u8; 64], i: usize) -> u32
-    requires { i < 16 }
-    ensures { result ≡ word block.now i }
-{
-    let bytes = &block[..];
-    let k = i * 4;
-    let b0 = bytes[k];
-    let b1 = bytes[k + 1];
-    let b2 = bytes[k + 2];
-    let b3 = bytes[k + 3];
-    big_endian::u32_from_be_bytes([b0, b1, b2, b3])
-}
-
 // W_0 to W_15: the block's own words.
-fn load(block: &[u8; 64]) -> [u32; 68]
-    ensures { take 16 result ≡ words block.now }
+fn load(block: &[u8; 64]) -> [u32; 16]
+    ensures { result ≡ words block.now }
 {
-    let mut w = [0u32; 68];
-    for i in 0..16 {
-        w[i] = word_at(block, i);
-    }
-    w
+    let (quads, _) = block.as_chunks::<4>();
+    array::from_fn(|i| big_endian::u32_from_be_bytes(quads[i]))
 }
 
 // W_j, of the words before it.
@@ -116,7 +92,8 @@ fn next(w: &[u32; 68], j: usize) -> u32
 fn expand(block: &[u8; 64]) -> [u32; 68]
     ensures { result ≡ W block.now }
 {
-    let mut w = load(block);
+    let mut w = [0u32; 68];
+    w[..16].copy_from_slice(&load(block));
     for j in 16..68 {
         w[j] = next(&w, j);
     }
@@ -127,11 +104,7 @@ fn expand(block: &[u8; 64]) -> [u32; 68]
 fn primes(w: &[u32; 68]) -> [u32; 64]
     ensures { result ≡ W' w.now }
 {
-    let mut wp = [0u32; 64];
-    for j in 0..64 {
-        wp[j] = w[j] ^ w[j + 4];
-    }
-    wp
+    array::from_fn(|j| w[j] ^ w[j + 4])
 }
 
 // Round j, with its two words.
@@ -142,55 +115,33 @@ fn round_at(v: [u32; 8], j: usize, w: &[u32; 68], wp: &[u32; 64]) -> [u32; 8]
     one_round(v, j as u32, w[j], wp[j])
 }
 
-// Rounds 0 to 15, four a turn: behind four rounds each word is at its place again, and none has to be moved.
-fn early_rounds(state: [u32; 8], w: &[u32; 68], wp: &[u32; 64]) -> [u32; 8]
-    ensures { result ≡ rounds_from w.now wp.now 0 16 state }
+// TURNS * 4 rounds, the first of them round FIRST. Behind four rounds each word is at its place again, and none has to be
+// moved.
+fn rounds_of_four<const FIRST: usize, const TURNS: usize>(
+    state: [u32; 8],
+    w: &[u32; 68],
+    wp: &[u32; 64],
+) -> [u32; 8]
+    requires { FIRST + TURNS * 4 ≤ 64 }
+    ensures { result ≡ rounds_from w.now wp.now FIRST (TURNS * 4) state }
 {
     let mut v = state;
-    for i in 0..4 {
-        let j = i * 4;
+    for i in 0..TURNS {
+        let j = i * 4 + FIRST;
         let v1 = round_at(v, j, w, wp);
         let v2 = round_at(v1, j + 1, w, wp);
         let v3 = round_at(v2, j + 2, w, wp);
-        let v4 = round_at(v3, j + 3, w, wp);
-        v = v4;
+        v = round_at(v3, j + 3, w, wp);
     }
     v
 }
 
-// Rounds 16 to 63, apart from the others, since t, ff and gg change there.
-fn late_rounds(state: [u32; 8], w: &[u32; 68], wp: &[u32; 64]) -> [u32; 8]
-    ensures { result ≡ rounds_from w.now wp.now 16 48 state }
-{
-    let mut v = state;
-    for i in 0..12 {
-        let j = i * 4 + 16;
-        let v1 = round_at(v, j, w, wp);
-        let v2 = round_at(v1, j + 1, w, wp);
-        let v3 = round_at(v2, j + 2, w, wp);
-        let v4 = round_at(v3, j + 3, w, wp);
-        v = v4;
-    }
-    v
-}
-
-// All 64 rounds.
+// All 64 rounds. The first 16 are apart from the others, since t, ff and gg change behind them.
 fn all_rounds(state: [u32; 8], w: &[u32; 68], wp: &[u32; 64]) -> [u32; 8]
     ensures { result ≡ rounds w.now wp.now 64 state }
 {
-    let v = early_rounds(state, w, wp);
-    late_rounds(v, w, wp)
-}
-
-// Each word of a with that of b.
-fn xor_words(a: [u32; 8], b: [u32; 8]) -> [u32; 8]
-    ensures { result ≡ xor_each a b }
-{
-    let mut out = [0u32; 8];
-    for i in 0..8 {
-        out[i] = a[i] ^ b[i];
-    }
-    out
+    let v = rounds_of_four::<0, 4>(state, w, wp);
+    rounds_of_four::<16, 12>(v, w, wp)
 }
 
 // One block into the state.
@@ -200,5 +151,5 @@ pub fn compress(state: [u32; 8], block: [u8; 64]) -> [u32; 8]
     let w = expand(&block);
     let wp = primes(&w);
     let last = all_rounds(state, &w, &wp);
-    xor_words(last, state)
+    words::xor_each(last, state)
 }

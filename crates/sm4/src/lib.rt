@@ -23,7 +23,7 @@ ghost use Rattle.sm4.specs.Standard.{
 };
 ghost use Rattle.sm4.specs.Tables.{Boxes, CKs, ordered};
 
-use masks::{ct_eq_u8, select_u8};
+use masks::{ct_eq, select};
 use sm4_sbox::{COUNT, S_BOX};
 use words::rotate_left;
 
@@ -99,10 +99,10 @@ fn select4(t: &[u8; 256], n: &[u8; 256], a: u8, b: u8, c: u8, d: u8) -> [u8; 4]
     for i in 0..256 {
         let e = t[i];
         let k = n[i];
-        ra = ra + select_u8(0, e, ct_eq_u8(k, a));
-        rb = rb + select_u8(0, e, ct_eq_u8(k, b));
-        rc = rc + select_u8(0, e, ct_eq_u8(k, c));
-        rd = rd + select_u8(0, e, ct_eq_u8(k, d));
+        ra = ra + select(0, e, ct_eq(k, a));
+        rb = rb + select(0, e, ct_eq(k, b));
+        rc = rc + select(0, e, ct_eq(k, c));
+        rd = rd + select(0, e, ct_eq(k, d));
     }
     [ra, rb, rc, rd]
 }

@@ -50,7 +50,7 @@ fn select(t: &[u8; 256], n: &[u8; 256], x: u8) -> u8
 {
     let mut r: u8 = 0;
     for i in 0..256 {
-        r = r + masks::select_u8(0, t[i], masks::ct_eq_u8(n[i], x));
+        r = r + masks::select(0, t[i], masks::ct_eq(n[i], x));
     }
     r
 }

@@ -24,7 +24,7 @@ fn copy_where(out: [u8; 32], part: &[u8], hit: u8) -> [u8; 32]
 {
     let mut r = out;
     for j in 0..MAC_LEN {
-        r[j] = masks::select_u8(r[j], part[j], hit);
+        r[j] = masks::select(r[j], part[j], hit);
     }
     r
 }
@@ -39,7 +39,7 @@ pub fn extract_mac_ct(body: &[u8], plaintext_len: usize) -> [u8; 32]
     if MAC_LEN < n {
         // how many places there are follows from n alone, and each of them is read
         for i in 0..n - MAC_LEN {
-            let hit = masks::ct_eq_usize(i, plaintext_len);
+            let hit = masks::ct_eq(i, plaintext_len);
             let next = copy_where(out, &body[i..i + MAC_LEN], hit);
             out = next;
         }
@@ -53,8 +53,8 @@ pub fn verdict_ct(pad_ok: bool, received: [u8; 32], computed: [u8; 32], held: us
 {
     // both tests as numbers, so that neither is left out where the other fails
     let ok = (pad_ok as u8) & hmac::ct_eq(received, computed);
-    let answer = masks::select_u8(BAD_RECORD, DONE, ok);
-    let length = masks::select_usize(0, held, ok);
+    let answer = masks::select(BAD_RECORD, DONE, ok);
+    let length = masks::select(0, held, ok);
     Verdict { answer, length }
 }
 
@@ -64,6 +64,6 @@ pub fn clear_from_ct(body: &mut [u8], keep: usize)
 {
     // as many turns as there are bytes, which is public
     for i in 0..body.len() {
-        body[i] = masks::select_u8(0, body[i], masks::ct_lt_usize(i, keep));
+        body[i] = masks::select(0, body[i], masks::ct_lt_usize(i, keep));
     }
 }

@@ -1,7 +1,8 @@
 -- Laws of numbers as bytes, the highest first: `be` and `number` undo each other. Assumes nothing.
-use Rattle.std.proofs.Common.{◌≡◌, ℕ, zero, suc, ◌+◌, ◌*◌, ◌/◌, ◌%◌, ◌^◌, ◌<◌, List, [], ◌∷◌, ◌++◌, length, take, drop, replicate, sym, refl, ap, ◌∙◌, append_assoc, append-nil, add-zero, add_assoc, add-suc, mod-lt, mod-eq_of_lt, zero-lt-suc, mul_assoc, add-mul, pow-suc, div-one, arith, length-append, get_or-drop, pow-add}
-use native.Mathlib.Nat.{one-le-pow, pow-zero, pow-succ'}
+use Rattle.std.proofs.Common.{◌≡◌, ℕ, zero, suc, ◌+◌, ◌-◌, ◌*◌, ◌/◌, ◌%◌, ◌^◌, ◌<◌, List, [], ◌∷◌, ◌++◌, length, get_or, take, drop, replicate, sym, refl, ap, ap₂, ◌∙◌, append_assoc, append-nil, add-zero, add_assoc, add-suc, mod-lt, mod-eq_of_lt, zero-lt-suc, mul_assoc, add-mul, pow-suc, div-one, arith, length-append, get_or-drop, pow-add}
+use native.Mathlib.Nat.{suc_inj, one-le-pow, pow-zero, pow-succ'}
 use native.Mathlib.Nat.{div-div-eq-div-mul, mod-one}
+use Rattle.std.specs.Int.{byte_at, byte_worth, bytes_high_first, sum_through}
 use lib.Arith.{digits_lt, digits_div, digits_mod, mod-mul}
 use Rattle.words.specs.Bytes.{be, number, Bytes}
 use Rattle.words.specs.Lists.{join, xor_each}
@@ -105,6 +106,19 @@ be-append m (suc n) x =
     rw (add-suc m n, be-append m n (x / 256), div-div-eq-div-mul x 256 (256 ^ n), pow-succ' 256 n)
     (append_assoc (be m (x / (256 * 256 ^ n))) (be n (x / 256)) (x % 256 ∷ []))
 
+-- byte n, counted from the lowest
+byte-here : (n x : ℕ) → byte_at n x ≡ x / 256 ^ n % 256
+byte-here zero x = rw (pow-zero 256, div-one x) refl
+byte-here (suc n) x = refl
+
+-- the library's bytes are these
+pub high_first-be : (n x : ℕ) → bytes_high_first n x ≡ be n x
+unfolding be
+high_first-be zero x = refl
+high_first-be (suc n) x =
+    let e : 1 + n ≡ suc n = omega arith in
+    ap₂ (λ (b : ℕ) (l : List ℕ). b ∷ l) (byte-here n x) (high_first-be n x) ∙ sym (be-append 1 n x) ∙ ap (λ (k : ℕ). be k x) e
+
 -- ---- bytes to a number
 
 -- bytes in two parts
@@ -144,3 +158,32 @@ be-number (x ∷ l) h =
     ap (λ (k : ℕ). be k y) e
     ∙ be-append 1 n y
     ∙ rw (digits_div x low, mod-eq_of_lt (h 0), ← be_wrap n y, digits_mod x low, be-number l tail)
+
+-- the first term of a sum, and the others
+sum-first : (f : ℕ → ℕ) (n : ℕ) → sum_through f (suc n) ≡ f 0 + sum_through (λ i. f (suc i)) n
+sum-first f zero = refl
+sum-first f (suc n) = omega (arith, sum-first f n)
+
+-- only the terms count
+sum_ext : (f g : ℕ → ℕ) (n : ℕ) → ((i : ℕ) → f i ≡ g i) → sum_through f n ≡ sum_through g n
+sum_ext f g zero h = h 0
+sum_ext f g (suc n) h = ap₂ (λ (a b : ℕ). a + b) (sum_ext f g n h) (h (suc n))
+
+-- what a byte is worth
+worth : (k m x : ℕ) → k ≡ m → byte_worth k x ≡ x * 256 ^ m
+worth zero m x e = rw (← e, pow-zero 256) (omega arith)
+worth (suc k) m x e = rw (← e)
+
+-- the library's sum is this number
+pub sum-number : (n : ℕ) (l : List ℕ) → length l ≡ suc n → sum_through (λ i. byte_worth (n - i) (get_or l i 0)) n ≡ number l
+unfolding number
+sum-number n [] e = cc
+sum-number zero (x ∷ []) e = omega arith
+sum-number zero (x ∷ y ∷ l) e = cc
+sum-number (suc n) (x ∷ l) e =
+    let k : suc n - 0 ≡ length l = omega arith in
+    let f : ℕ → ℕ = λ i. byte_worth (suc n - i) (get_or (x ∷ l) i 0) in
+    let g : ℕ → ℕ = λ i. byte_worth (n - i) (get_or l i 0) in
+    sum-first f n
+    ∙ ap₂ (λ (a b : ℕ). a + b) (worth (suc n - 0) (length l) x k)
+    (sum_ext (λ i. f (suc i)) g n (λ i. ap (λ (m : ℕ). byte_worth m (get_or l i 0)) (omega arith)) ∙ sum-number n l (suc_inj e))

@@ -1,11 +1,9 @@
 -- A test as a number, and a choice by one, of a number and of a list; a choice by a mask of all ones or all zeros.
 -- Assumes nothing.
 use Rattle.std.proofs.Common.{◌≡◌, ℕ, zero, suc, ◌-◌, ◌*◌, ◌%◌, ◌^◌, ◌<◌, Bool, true, false, cond, ◌&&◌, eqb, List, length, get_or, refl, mod-lt, mod-eq_of_lt, zero-lt-suc, one-mul, zero-mul, arith}
-use lib.Bits.{bit_and, bit_xor, and_comm, and_mask, and_zero_l}
+use lib.Bits.{bit_and, and_comm, and_mask, and_zero_l}
 use mir.Val.{bool_byte}
 use Rattle.words.specs.Choice.{bit, chosen}
-use Rattle.words.specs.Word.{◌⊕◌}
-use Rattle.words.proofs.Xor.{⊕-zero, ⊕-lt, xor_twice}
 
 -- a comparison cast to a number
 pub bool_bit : (t : Bool) → bool_byte t ≡ bit t
@@ -53,15 +51,22 @@ pub length-cond : {n : ℕ} (t : Bool) (a b : List ℕ) → length a ≡ n → l
 length-cond true a b h k = h
 length-cond false a b h k = k
 
--- a select by mask, in any width: no bits of a ⊕ b are put on a, or all of them
-pub masked : (w : ℕ) {a b : ℕ} → a < 2 ^ w → b < 2 ^ w → (choice : ℕ)
-    → bit_xor a (bit_and (choice % 2 * (2 ^ w - 1)) (bit_xor a b)) ≡ chosen choice a b
-unfolding chosen ◌⊕◌
-masked w {a} {b} ha hb choice = by (choice % 2) (mod-lt choice (zero-lt-suc 1))
+-- a mask of all ones or all zeros, in any width
+pub masked : (w : ℕ) {x : ℕ} → x < 2 ^ w → (choice : ℕ) → bit_and x (choice % 2 * (2 ^ w - 1)) ≡ chosen choice 0 x
+unfolding chosen
+masked w {x} h choice = by (choice % 2) (mod-lt choice (zero-lt-suc 1))
   where
-    by : (m : ℕ) → m < 2 → bit_xor a (bit_and (m * (2 ^ w - 1)) (bit_xor a b)) ≡ cond (eqb m 1) b a
-    by zero h = rw (zero-mul (2 ^ w - 1), and_zero_l) (⊕-zero a)
-    by (suc zero) h =
-        rw (one-mul (2 ^ w - 1), and_comm (2 ^ w - 1) (bit_xor a b), and_mask (bit_xor a b) w, mod-eq_of_lt (⊕-lt w ha hb))
-        (xor_twice a b)
-    by (suc (suc m)) h = omega arith
+    by : (m : ℕ) → m < 2 → bit_and x (m * (2 ^ w - 1)) ≡ cond (eqb m 1) x 0
+    by zero b = rw (zero-mul (2 ^ w - 1), and_comm x 0) (and_zero_l x)
+    by (suc zero) b = rw (one-mul (2 ^ w - 1), and_mask x w) (mod-eq_of_lt h)
+    by (suc (suc m)) b = omega arith
+
+-- what is put on where the choice is 1 makes the one the other, where it is put on twice without a trace
+pub chosen-xored : {A : Type 0} (xored : A → A → A) (none a b : A) (choice : ℕ)
+    → xored a (xored a b) ≡ b → xored a none ≡ a → xored a (chosen choice none (xored a b)) ≡ chosen choice a b
+unfolding chosen
+chosen-xored xored none a b choice twice alone = by (eqb (choice % 2) 1)
+  where
+    by : (t : Bool) → xored a (cond t (xored a b) none) ≡ cond t b a
+    by true = twice
+    by false = alone

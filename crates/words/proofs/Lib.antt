@@ -3,6 +3,7 @@ pub mod Bytes
 pub mod Choice
 pub mod Copy
 pub mod Lists
+pub mod Made
 pub mod OneOutcome
 pub mod Over
 pub mod Puts

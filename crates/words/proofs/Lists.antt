@@ -2,11 +2,13 @@
 -- Assumes nothing.
 use Rattle.std.proofs.Common.{◌≡◌, ℕ, zero, suc, ◌+◌, ◌-◌, ◌*◌, ◌<◌, ◌≤◌, Bool, true, false, cond, ◌⊎◌, List, [], ◌∷◌, ◌++◌, length, get_or, take, drop, set, replicate, sym, refl, ap, ◌∙◌, ap₂, inl, inr, append_assoc, append-nil, le_of_eq, le_of_suc-le-suc, not-suc-le-zero, add-zero, mul-le-mul_right, suc-mul, suc-add, eq-or-lt_of_le, zero-add, zero-mul, suc-ne-zero, add-one, arith, length-append, length-drop, drop_of_length-le, length-take, get_or-drop, take_all, get_or-take, take-suc, drop-drop, take-suc-set, take_at, get_or-append-add, ext_get_or, take-add, drop_at}
 use native.Mathlib.Nat.{suc_inj}
+use Rattle.std.specs.Simd.{first_chunks}
+use lib.Bits.{bit_xor}
 use lib.ListN.{length-replicate}
 use lib.ListN.{get_or-replicate, get_or-append}
 use lib.Seq.{take-nil, take-append-le, drop-append-add}
 use lib.Seq.{get_or_at}
-use Rattle.words.specs.Lists.{table, grow, join, block, xor_each, put}
+use Rattle.words.specs.Lists.{table, grow, join, block, zip_with, xor_each, put}
 use Rattle.words.specs.Word.{◌⊕◌}
 use Rattle.words.proofs.Xor.{xor_twice}
 
@@ -147,6 +149,14 @@ block-four l i h =
       get_or-block 4 i l 3 0 (omega arith),
     )
 
+-- chunk i of k is block i
+pub get_or-first_chunks : (w k i : ℕ) (l : List ℕ) (d : List ℕ) → i < k → get_or (first_chunks w k l) i d ≡ block w i l
+get_or-first_chunks w zero i l d h = absurd (omega arith)
+get_or-first_chunks w (suc k) zero l d h = rw (zero-mul w)
+get_or-first_chunks w (suc k) (suc i) l d h =
+    get_or-first_chunks w k i (drop w l) d (omega arith)
+    ∙ ap (take w) (drop-drop (i * w) w l ∙ ap (λ (n : ℕ). drop n l) (omega (arith, suc-mul i w)))
+
 -- ---- one list laid over another
 
 -- the length stays
@@ -232,6 +242,31 @@ module _ (w : ℕ) (f : ℕ → List ℕ) where
       put-fits (m * w) (f m) (front ++ rest) (simp (length-append, length-drop) (omega (arith, suc-mul m w)))
       ∙ rw (take_at front rest (m * w) l, e, drop-append-add front rest w, drop-drop w (m * w) o, suc-mul m w)
       (sym (append_assoc front (f m) (drop (m * w + w) o)))
+
+-- ---- two lists of one length, element by element
+
+-- the length stays
+pub length-zip_with : {A : Type 0} (op : A → A → A) (a b : List A) → length a ≡ length b → length (zip_with op a b) ≡ length b
+unfolding zip_with
+length-zip_with op [] b e = e
+length-zip_with op (x ∷ a) [] e = refl
+length-zip_with op (x ∷ a) (y ∷ b) e = ap suc (length-zip_with op a b (suc_inj e))
+
+-- each element
+pub get_or-zip_with : {A : Type 0} (op : A → A → A) (a b : List A) (i : ℕ) (d : A) → length a ≡ length b → i < length b
+    → get_or (zip_with op a b) i d ≡ op (get_or a i d) (get_or b i d)
+unfolding zip_with
+get_or-zip_with op a [] i d e h = absurd (omega arith)
+get_or-zip_with op [] (y ∷ b) i d e h = cc
+get_or-zip_with op (x ∷ a) (y ∷ b) zero d e h = refl
+get_or-zip_with op (x ∷ a) (y ∷ b) (suc i) d e h = get_or-zip_with op a b i d (suc_inj e) (omega arith)
+
+-- by exclusive or
+pub zip_with-xor : (a b : List ℕ) → zip_with bit_xor a b ≡ xor_each a b
+unfolding zip_with xor_each ◌⊕◌
+zip_with-xor [] b = refl
+zip_with-xor (x ∷ a) [] = refl
+zip_with-xor (x ∷ a) (y ∷ b) = ap (λ (l : List ℕ). bit_xor x y ∷ l) (zip_with-xor a b)
 
 -- ---- exclusive or of two lists of one length
 

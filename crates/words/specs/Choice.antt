@@ -6,5 +6,5 @@ abbrev pub bit : Bool → ℕ
 bit b = cond b 1 0
 
 -- b where the lowest bit of the choice is 1, else a
-unfoldable pub chosen : ℕ → ℕ → ℕ → ℕ
+unfoldable pub chosen : {A : Type 0} → ℕ → A → A → A
 chosen choice a b = cond (choice % 2 == 1) b a

@@ -21,6 +21,12 @@ join (suc m) f = join m f ++ f m
 abbrev pub block : ℕ → ℕ → List ℕ → List ℕ
 block w k l = take w (drop (k * w) l)
 
+-- op of the elements of two lists at each place, as far as the shorter list goes
+unfoldable pub zip_with : {A : Type 0} → (A → A → A) → List A → List A → List A
+zip_with op [] b = []
+zip_with op (x ∷ a) [] = []
+zip_with op (x ∷ a) (y ∷ b) = op x y ∷ zip_with op a b
+
 -- element by element, as far as the shorter list goes
 unfoldable pub xor_each : List ℕ → List ℕ → List ℕ
 xor_each [] b = []

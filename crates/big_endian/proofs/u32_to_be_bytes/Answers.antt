@@ -1,8 +1,7 @@
--- `big_endian::u32_to_be_bytes` meets its contract: each byte is the lowest of what those after it leave. Assumes nothing.
-use mathlib.Core.Path.{refl}
-use Rattle.words.specs.Bytes.{be}
+-- `big_endian::u32_to_be_bytes` meets its contract: the library's bytes are those of `be`. Assumes nothing.
+use Rattle.std.proofs.Common.{◌∙◌}
+use Rattle.words.proofs.Bytes.{high_first-be}
 use Rattle.big_endian.proofs.u32_to_be_bytes.Goals as goal
 
 pub returns : goal.returns
-unfolding be
-returns c = refl
+returns c = c.to_be_bytes.ensures ∙ high_first-be 4 c.args.x

@@ -1,14 +1,7 @@
--- `big_endian::u64_to_be_bytes` meets its contract: the bytes of the high half, then those of the low. Assumes nothing.
-use mathlib.Core.Path.{sym, ap, ◌∙◌}
-use mathlib.Core.List.{List, ◌++◌}
-use Prim.Native.Nat.{ℕ, ◌/◌, ◌^◌}
-use Rattle.words.specs.Bytes.{be}
-use Rattle.words.proofs.Bytes.{be-append, be_wrap}
+-- `big_endian::u64_to_be_bytes` meets its contract: the library's bytes are those of `be`. Assumes nothing.
+use Rattle.std.proofs.Common.{◌∙◌}
+use Rattle.words.proofs.Bytes.{high_first-be}
 use Rattle.big_endian.proofs.u64_to_be_bytes.Goals as goal
 
 pub returns : goal.returns
-unfolding be
-returns c =
-    let x = c.args.x in
-    rw (c.u32_to_be_bytes-h.ensures, c.u32_to_be_bytes-l.ensures)
-    (ap (λ (l : List ℕ). be 4 (x / 256 ^ 4) ++ l) (be_wrap 4 x) ∙ sym (be-append 4 4 x))
+returns c = c.to_be_bytes.ensures ∙ high_first-be 8 c.args.x

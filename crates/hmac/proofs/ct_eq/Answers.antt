@@ -26,6 +26,6 @@ returns c =
     let l = c.loop-i in
     let a = c.args in
     let e : l.i ≡ 32 = omega arith in
-    c.ct_eq_u8.ensures
+    c.ct_eq.ensures
     ∙ ap bit
     (rw e at l.invariant.1 ∙ ap₂ agree (take_whole a.a 32 (search rules)) (take_whole a.b 32 (search rules)))

@@ -21,5 +21,5 @@ returns c =
     let a = c.args in
     let t = eqb a.b ((13 + a.held + 8) / 64) in
     c.u64_to_be_bytes.ensures
-    ∙ ap (be 8) (c.select_usize-chosen.ensures ∙ chosen_by t _ _ c.is_final.ensures)
+    ∙ ap (be 8) (c.select-chosen.ensures ∙ chosen_by t _ _ c.is_final.ensures)
     ∙ in_bytes t (64 + 13 + a.held)

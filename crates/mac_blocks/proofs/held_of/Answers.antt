@@ -17,6 +17,6 @@ smaller a b =
 pub returns : goal.returns
 returns c =
     let a = c.args in
-    c.select_usize.ensures
+    c.select.ensures
     ∙ chosen_by (ltb a.lent a.plaintext_len) _ _ c.ct_lt_usize.ensures
     ∙ sym (smaller a.plaintext_len a.lent)

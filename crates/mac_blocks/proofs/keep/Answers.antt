@@ -16,7 +16,7 @@ pub loop-i-preserved : goal.loop-i-preserved
 loop-i-preserved c =
     let l = c.loop-i in
     let a = c.args in
-    over-more l.invariant (omega arith) (c.select_u32.ensures ∙ chosen_element a.choice a.kept a.words l.i)
+    over-more l.invariant (omega arith) (c.select.ensures ∙ chosen_element a.choice a.kept a.words l.i)
 
 pub returns : goal.returns
 returns c = over_all c.loop-i.invariant (omega arith)

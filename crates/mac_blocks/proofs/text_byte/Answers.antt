@@ -15,10 +15,10 @@ returns c =
     let a = c.args in
     let h : List ℕ = a.header in
     let size : length h ≡ 13 = search rules in
-    c.select_u8.ensures
-    ∙ chosen_by (eqb a.p (13 + a.held)) _ 0x80 c.ct_eq_usize.ensures
+    c.select.ensures
+    ∙ chosen_by (eqb a.p (13 + a.held)) _ 0x80 c.ct_eq.ensures
     ∙ ap (λ (x : ℕ). cond (eqb a.p (13 + a.held)) 0x80 x)
-    (c.select_u8-text.ensures
+    (c.select-text.ensures
     ∙ chosen_by (ltb a.p (13 + a.held)) 0 _ c.ct_lt_usize.ensures
     ∙ ap (λ (x : ℕ). cond (ltb a.p (13 + a.held)) x 0) c.candidate.ensures)
     ∙ sym (rw size at (byte-marked h a.«data».now a.held a.p c.requires))

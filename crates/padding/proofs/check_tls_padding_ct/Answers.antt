@@ -25,22 +25,22 @@ pub differences-requires : goal.differences-requires
 unfolding last_byte
 differences-requires c = refl
 
-module _ (c : goal.After-select_usize-pad) where
+module _ (c : goal.After-select-pad) where
   -- the body
   abbrev d : List ℕ
   d = c.args.body.now
 
   -- the mark is that of the definition
-  mark : bit_and c.ct_lt_usize-fits.result c.ct_eq_u8.result ≡ bit (good_pad d)
+  mark : bit_and c.ct_lt_usize-fits.result c.ct_eq.result ≡ bit (good_pad d)
   unfolding last_byte
   mark =
-      ap₂ bit_and c.ct_lt_usize-fits.ensures c.ct_eq_u8.ensures
+      ap₂ bit_and c.ct_lt_usize-fits.ensures c.ct_eq.ensures
       ∙ mark-good d c.differences.result c.differences.ensures
 
   -- what is taken off is the padding where it is good
-  off : c.select_usize-pad.result ≡ chosen (bit (good_pad d)) 0 (last_byte d)
+  off : c.select-pad.result ≡ chosen (bit (good_pad d)) 0 (last_byte d)
   unfolding last_byte
-  off = c.select_usize-pad.ensures ∙ ap (λ (m : ℕ). chosen m 0 (last_byte d)) mark
+  off = c.select-pad.ensures ∙ ap (λ (m : ℕ). chosen m 0 (last_byte d)) mark
 
 pub overflow_sub-held : goal.overflow_sub-held
 overflow_sub-held c = omega (arith, off c, (held-chosen (d c)).0)

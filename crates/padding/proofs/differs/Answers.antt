@@ -5,4 +5,4 @@ use Rattle.padding.proofs.differs.Goals as goal
 
 pub returns : goal.returns
 unfolding ◌⊕◌
-returns c = rw (c.select_u8.ensures, c.ct_lt_usize-in_pad.ensures, chosen-bit)
+returns c = rw (c.select.ensures, c.ct_lt_usize-in_pad.ensures, chosen-bit)

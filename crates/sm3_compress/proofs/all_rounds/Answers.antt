@@ -8,6 +8,6 @@ use Rattle.sm3_compress.proofs.all_rounds.Goals as goal
 pub returns : goal.returns
 unfolding rounds
 returns c =
-    c.late_rounds.ensures
-    ∙ ap (rounds_from _ _ 16 48) (c.early_rounds-v.ensures ∙ rounds_from_lem _ _ _ 0 16)
+    c.rounds_of_four.ensures
+    ∙ ap (rounds_from _ _ 16 48) (c.rounds_of_four-v.ensures ∙ rounds_from_lem _ _ _ 0 16)
     ∙ rounds_from_lem _ _ _ 16 48

@@ -4,6 +4,7 @@ use borrow.Author.Rules.{rules}
 use mathlib.Core.Path.{◌≡◌, sym, ◌∙◌}
 use Prim.Native.Nat.{◌+◌, ◌-◌}
 use native.Mathlib.Omega.{arith}
+use Rattle.std.proofs.Common.{length-append, take_at}
 use Rattle.words.specs.Lists.{grow}
 use Rattle.words.proofs.Lists.{grow-more, take_whole}
 use Rattle.sm3_compress.specs.Standard.{W}
@@ -12,7 +13,9 @@ use Rattle.sm3_compress.proofs.expand.Goals as goal
 
 pub loop-j-init : goal.loop-j-init
 unfolding grow
-loop-j-init c = (search rules, search rules, search rules, c.load-w.ensures)
+loop-j-init c =
+    let copied = c.copy_from_slice.ensures in
+    (length-append c.copy_from_slice.new.self _ ∙ rw copied.len, search rules, search rules, take_at _ _ 16 copied.len ∙ copied.after ∙ c.load.ensures)
 
 pub loop-j-preserved : goal.loop-j-preserved
 loop-j-preserved c =

@@ -1,25 +1,17 @@
--- `sm3_compress::load` meets its contract. The loop's invariant: the first i words are those of the block; the measure is
--- what is left of 16. Assumes nothing.
-use borrow.Author.Rules.{rules}
-use mathlib.Core.Path.{◌≡◌, refl}
-use native.Mathlib.Omega.{arith}
-use Rattle.words.specs.Lists.{table}
-use Rattle.words.proofs.Lists.{table_more}
-use Rattle.sm3_compress.specs.Standard.{words}
+-- `sm3_compress::load` meets its contract: word i is the number of quad i. Assumes nothing.
+use Rattle.std.proofs.Common.{◌<◌, ◌/◌, [], length, get_or, ap, ◌∙◌, rules, arith}
+use Rattle.words.specs.Bytes.{number}
+use Rattle.words.proofs.Lists.{table_ext, get_or-first_chunks}
+use Rattle.words.proofs.Made.{made_table}
+use Rattle.sm3_compress.specs.Standard.{word, words}
 use Rattle.sm3_compress.proofs.load.Goals as goal
 
-pub loop-i-init : goal.loop-i-init
-unfolding table
-loop-i-init c = (refl, search rules, refl)
-
-pub loop-i-preserved : goal.loop-i-preserved
-loop-i-preserved c =
-    let l = c.loop-i in
-    (search rules, search rules, table_more _ _ _ _ (search rules) c.word_at.ensures l.invariant.2)
-
 pub returns : goal.returns
-unfolding words
+unfolding words word
 returns c =
-    let l = c.loop-i in
-    let e : l.i ≡ 16 = omega arith in
-    rw e at l.invariant.2
+    let quads = c.as_chunks.result.0.now in
+    made_table _ _ _ (λ i. number (get_or quads i [])) 16 (λ i y q b k. search rules) c.from_fn.ensures.items
+    ∙ table_ext _ _ 16
+    (λ i b.
+    let within : i < length c.args.block.now / 4 = omega arith in
+    ap number (ap (λ l. get_or l i []) c.as_chunks.ensures.front ∙ get_or-first_chunks 4 _ i c.args.block.now [] within))

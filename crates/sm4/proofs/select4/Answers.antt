@@ -11,38 +11,38 @@ loop-i-init c = (omega arith, pass_none _ _, pass_none _ _, pass_none _ _, pass_
 -- entry i of the table, counted for a
 pub overflow_add-ra : goal.overflow_add-ra
 overflow_add-ra c =
-    let turn : Passed c.args.t.now c.args.a (c.loop-i.i + 1) (c.loop-i.ra + c.select_u8-ra.result) =
-    pass_turn _ _ _ _ _ _ _ c.requires (omega arith) c.loop-i.invariant.1 (omega arith) c.ct_eq_u8.ensures c.select_u8-ra.ensures in
+    let turn : Passed c.args.t.now c.args.a (c.loop-i.i + 1) (c.loop-i.ra + c.select-ra.result) =
+    pass_turn _ _ _ _ _ _ _ c.requires (omega arith) c.loop-i.invariant.1 (omega arith) c.ct_eq.ensures c.select-ra.ensures in
     omega (arith, turn.byte)
 
 -- entry i of the table, counted for b
 pub overflow_add-rb : goal.overflow_add-rb
 overflow_add-rb c =
-    let turn : Passed c.args.t.now c.args.b (c.loop-i.i + 1) (c.loop-i.rb + c.select_u8-rb.result) =
-    pass_turn _ _ _ _ _ _ _ c.requires (omega arith) c.loop-i.invariant.2 (omega arith) c.ct_eq_u8-in-loop-i.ensures c.select_u8-rb.ensures in
+    let turn : Passed c.args.t.now c.args.b (c.loop-i.i + 1) (c.loop-i.rb + c.select-rb.result) =
+    pass_turn _ _ _ _ _ _ _ c.requires (omega arith) c.loop-i.invariant.2 (omega arith) c.ct_eq-in-loop-i.ensures c.select-rb.ensures in
     omega (arith, turn.byte)
 
 -- entry i of the table, counted for c
 pub overflow_add-rc : goal.overflow_add-rc
 overflow_add-rc c =
-    let turn : Passed c.args.t.now c.args.c (c.loop-i.i + 1) (c.loop-i.rc + c.select_u8-rc.result) =
-    pass_turn _ _ _ _ _ _ _ c.requires (omega arith) c.loop-i.invariant.3 (omega arith) c.ct_eq_u8-in-loop-i-2.ensures c.select_u8-rc.ensures in
+    let turn : Passed c.args.t.now c.args.c (c.loop-i.i + 1) (c.loop-i.rc + c.select-rc.result) =
+    pass_turn _ _ _ _ _ _ _ c.requires (omega arith) c.loop-i.invariant.3 (omega arith) c.ct_eq-in-loop-i-2.ensures c.select-rc.ensures in
     omega (arith, turn.byte)
 
 -- entry i of the table, counted for d
 pub overflow_add-rd : goal.overflow_add-rd
 overflow_add-rd c =
-    let turn : Passed c.args.t.now c.args.d (c.loop-i.i + 1) (c.loop-i.rd + c.select_u8-rd.result) =
-    pass_turn _ _ _ _ _ _ _ c.requires (omega arith) c.loop-i.invariant.4 (omega arith) c.ct_eq_u8-in-loop-i-3.ensures c.select_u8-rd.ensures in
+    let turn : Passed c.args.t.now c.args.d (c.loop-i.i + 1) (c.loop-i.rd + c.select-rd.result) =
+    pass_turn _ _ _ _ _ _ _ c.requires (omega arith) c.loop-i.invariant.4 (omega arith) c.ct_eq-in-loop-i-3.ensures c.select-rd.ensures in
     omega (arith, turn.byte)
 
 pub loop-i-preserved : goal.loop-i-preserved
 loop-i-preserved c = (
   omega arith,
-  pass_turn _ _ _ _ _ _ _ c.requires (omega arith) c.loop-i.invariant.1 (omega arith) c.ct_eq_u8.ensures c.select_u8-ra.ensures,
-  pass_turn _ _ _ _ _ _ _ c.requires (omega arith) c.loop-i.invariant.2 (omega arith) c.ct_eq_u8-in-loop-i.ensures c.select_u8-rb.ensures,
-  pass_turn _ _ _ _ _ _ _ c.requires (omega arith) c.loop-i.invariant.3 (omega arith) c.ct_eq_u8-in-loop-i-2.ensures c.select_u8-rc.ensures,
-  pass_turn _ _ _ _ _ _ _ c.requires (omega arith) c.loop-i.invariant.4 (omega arith) c.ct_eq_u8-in-loop-i-3.ensures c.select_u8-rd.ensures,
+  pass_turn _ _ _ _ _ _ _ c.requires (omega arith) c.loop-i.invariant.1 (omega arith) c.ct_eq.ensures c.select-ra.ensures,
+  pass_turn _ _ _ _ _ _ _ c.requires (omega arith) c.loop-i.invariant.2 (omega arith) c.ct_eq-in-loop-i.ensures c.select-rb.ensures,
+  pass_turn _ _ _ _ _ _ _ c.requires (omega arith) c.loop-i.invariant.3 (omega arith) c.ct_eq-in-loop-i-2.ensures c.select-rc.ensures,
+  pass_turn _ _ _ _ _ _ _ c.requires (omega arith) c.loop-i.invariant.4 (omega arith) c.ct_eq-in-loop-i-3.ensures c.select-rd.ensures,
 )
 
 pub returns : goal.returns

@@ -8,12 +8,12 @@ use Rattle.sm4_sbox.proofs.select.Goals as goal
 pub loop-i-init : goal.loop-i-init
 loop-i-init c = (omega arith, pass_none _ _)
 
-module _ (c : goal.After-select_u8-r) where
+module _ (c : goal.After-select-r) where
   -- one entry more
-  turn : Passed c.args.t.now c.args.x (c.loop-i.i + 1) (c.loop-i.r + c.select_u8-r.result)
+  turn : Passed c.args.t.now c.args.x (c.loop-i.i + 1) (c.loop-i.r + c.select-r.result)
   turn =
       pass_turn _ _ _ _ _ _ _ c.requires (omega arith) c.loop-i.invariant.1 (omega arith)
-      c.ct_eq_u8.ensures c.select_u8-r.ensures
+      c.ct_eq.ensures c.select-r.ensures
 
 pub loop-i-preserved : goal.loop-i-preserved
 loop-i-preserved c = (omega arith, turn c)

@@ -19,7 +19,7 @@ loop-i-preserved c =
     let l = c.loop-i in
     let a = c.args in
     over-more l.invariant (omega arith)
-    (rw (c.select_u8.ensures, c.ct_lt_usize.ensures, over_here l.invariant (omega arith))
+    (rw (c.select.ensures, c.ct_lt_usize.ensures, over_here l.invariant (omega arith))
     (get_or-cleared a.keep a.body.now l.i (omega arith)))
 
 pub shape_of-body : goal.shape_of-body

@@ -19,7 +19,7 @@ loop-j-preserved c =
     let l = c.loop-j in
     let a = c.args in
     over-more l.invariant (search rules)
-    (rw (c.select_u8.ensures, over_here l.invariant (search rules))
+    (rw (c.select.ensures, over_here l.invariant (search rules))
     (chosen_element a.hit a.out a.part.now l.j))
 
 pub returns : goal.returns

@@ -17,7 +17,7 @@ pub loop-i-preserved : goal.loop-i-preserved
 loop-i-preserved c =
     let l = c.loop-i in
     let a = c.args in (
-      rw (c.copy_where-next.ensures, c.ct_eq_usize-hit.ensures, add-sub_cancel_left l.i 32, l.invariant.0)
+      rw (c.copy_where-next.ensures, c.ct_eq-hit.ensures, add-sub_cancel_left l.i 32, l.invariant.0)
           (scanned-more a.body.now a.plaintext_len l.i),
       omega arith,
     )

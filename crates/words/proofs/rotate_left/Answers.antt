@@ -1,11 +1,11 @@
 -- `words::rotate_left` meets its contract: the two shifts share no digit, so `|` adds them; by 0 both are x. Assumes nothing.
-use Rattle.std.proofs.Common.{◌≡◌, ℕ, zero, suc, ◌-◌, ◌*◌, ◌/◌, ◌%◌, ◌^◌, ◌<◌, sym, ◌∙◌, arith, rules}
+use Rattle.std.proofs.Common.{◌≡◌, ℕ, zero, suc, ◌-◌, ◌*◌, ◌/◌, ◌%◌, ◌^◌, ◌<◌, sym, ◌∙◌, arith}
 use lib.Bits.{bit_or, or_self}
 use Rattle.words.specs.Word.{◌⋘◌}
 use Rattle.words.proofs.Word.{rotl-or, rotl-zero}
 use Rattle.words.proofs.rotate_left.Goals as goal
 
--- the code's two shifts, by 0 too
+-- the two shifts, by 0 too
 shifts : (x k : ℕ) → x < 2 ^ 32 → k < 32 → bit_or (x * 2 ^ k % 2 ^ 32) (x / 2 ^ ((32 - k) % 32)) ≡ x ⋘ k
 shifts x zero h b =
     let e : x * 2 ^ 0 % 2 ^ 32 ≡ x = omega arith in
@@ -16,4 +16,4 @@ shifts x (suc k) h b =
     rw e (rotl-or x (suc k) (32 - suc k) (omega arith) h)
 
 pub returns : goal.returns
-returns c = shifts c.args.x (c.args.n % 32) c.ranges.x.fits (omega arith)
+returns c = c.rotate_left.ensures ∙ shifts c.args.x (c.args.n % 32) c.ranges.x.fits (omega arith)

@@ -1,0 +1,8 @@
+-- `xor` of `Bits` for usize keeps its law. Assumes nothing.
+use Rattle.words.specs.Word.{◌⊕◌}
+use Rattle.words.proofs.Xor.{xor_twice}
+use Rattle.words.proofs.UsizeBits.xor.Goals as goal
+
+pub returns-clause-twice : goal.returns-clause-twice
+unfolding ◌⊕◌
+returns-clause-twice c = xor_twice c.args.self c.args.other
