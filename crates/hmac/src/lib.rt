@@ -43,11 +43,7 @@ fn k_prime(key: &[u8]) -> [u8; BLOCK_SIZE]
 pub fn xor_pad(block: [u8; BLOCK_SIZE], pad: u8) -> [u8; BLOCK_SIZE]
     ensures { result ≡ xor_each block (replicate B pad) }
 {
-    let mut out = [0u8; BLOCK_SIZE];
-    for i in 0..BLOCK_SIZE {
-        out[i] = block[i] ^ pad;
-    }
-    out
+    words::xor_each(block, [pad; BLOCK_SIZE])
 }
 
 // A fresh hash that has taken in a block.
@@ -62,8 +58,8 @@ pub fn ct_eq(a: [u8; DIGEST_SIZE], b: [u8; DIGEST_SIZE]) -> u8
     ensures { result ≡ bit (agree a b) }
 {
     let mut differ: u8 = 0;
-    for i in 0..DIGEST_SIZE {
-        differ = differ | (a[i] ^ b[i]);
+    for bits in &words::xor_each(a, b) {
+        differ |= bits;
     }
     masks::ct_eq(differ, 0)
 }

@@ -37,26 +37,15 @@ pub struct Sm3 {
     pub total_len: u64,
 }
 
-// The 64 bytes of data from at on.
-fn block_at(data: &[u8], at: usize) -> [u8; 64]
-    requires { at + 64 ≤ length «data».now }
-    ensures { result ≡ take 64 (drop at «data».now) }
-{
-    let mut block = [0u8; 64];
-    words::copy_at(&mut block, 0, &data[at..at + 64]);
-    block
-}
-
 // The words after the whole blocks of data.
 fn blocks(state: [u32; 8], data: &[u8]) -> [u32; 8]
     ensures { result ≡ iteration state «data».now }
 {
+    let (whole, _) = data.as_chunks::<BLOCK_SIZE>();
     let mut v = state;
-    let mut at: usize = 0;
-    while 64 <= data.len() - at {
-        let u = compress(v, block_at(data, at));
-        v = u;
-        at += 64;
+    for block in whole {
+        let next = compress(v, *block);
+        v = next;
     }
     v
 }
@@ -65,15 +54,13 @@ fn blocks(state: [u32; 8], data: &[u8]) -> [u32; 8]
 fn absorb(state: [u32; 8], buffer: [u8; 64], total: u64, data: &[u8]) -> Sm3
     ensures { result ≡ absorbed state buffer total «data».now }
 {
-    let next = blocks(state, data);
-    let rest = data.len() % 64;
-    let from = data.len() - rest;
+    let (_, rest) = data.as_chunks::<BLOCK_SIZE>();
     let mut kept = buffer;
-    words::copy_at(&mut kept, 0, &data[from..]);
+    words::copy_at(&mut kept, 0, rest);
     Sm3 {
-        state: next,
+        state: blocks(state, data),
         buffer: kept,
-        buffer_len: rest,
+        buffer_len: rest.len(),
         total_len: total,
     }
 }

@@ -1,10 +1,10 @@
 -- `hmac::hmac_sm3_parts` meets its contract: no update is refused, and however a message is cut its MAC is that of the whole (`cut`).
 -- Assumes nothing.
-use Rattle.std.proofs.Common.{◌≡◌, ◌<◌, ◌+◌, Bool, true, List, ℕ, Bor, length, get_or, map, drop, refl, sym, ap, ◌∙◌, drop_of_length-le, drop-cons, add-one}
+use Rattle.std.proofs.Common.{◌≡◌, ◌<◌, ◌+◌, List, ℕ, Bor, length, get_or, map, drop, refl, sym, ap, ◌∙◌, drop_of_length-le, drop-cons, add-one}
 use Rattle.sm3.specs.State.{Digest}
 use Rattle.hmac.specs.declared.HmacSm3.{HmacSm3}
 use Rattle.hmac.specs.Cutting.{fed}
-use Rattle.hmac.specs.State.{Keyed, in_range, started, updated, finalized}
+use Rattle.hmac.specs.State.{Keyed, started, updated, finalized}
 use Rattle.hmac.proofs.Mac.{cut}
 use Rattle.hmac.proofs.OneOutcome.{started-in_range, updated-in_range, update-ok, digest-ok}
 use Rattle.hmac.proofs.hmac_sm3_parts.Goals as goal
