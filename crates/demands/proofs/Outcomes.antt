@@ -29,20 +29,18 @@ pub outcomes : Outcomes
 outcomes =
     record {
       «answers::Refusal::number» = λ self. equation-one_outcome _;
-      «answers::number_of» = λ answer. equation-one_outcome _;
+      «answers::number_of» = λ T answer. equation-one_outcome _;
+      «words::xor_each» = λ T xored a b. equation-one_outcome _;
       «words::rotate_left» = λ x n. equation-one_outcome _;
       «words::wrapping_add3» = λ x y z. equation-one_outcome _;
       «words::wrapping_add4» = λ w x y z. equation-one_outcome _;
       «words::div_ceil» = λ a b. equation-one_outcome _;
       «words::copy_at» = λ out at src _ _. Copied-one_outcome;
       «words::fill_at» = λ out at count byte _ _. Filled-one_outcome;
-      «masks::ct_eq_u8» = λ a b. equation-one_outcome _;
-      «masks::ct_eq_usize» = λ a b. equation-one_outcome _;
+      «masks::ct_eq» = λ T eq a b. equation-one_outcome _;
       «masks::ct_lt_usize» = λ a b. equation-one_outcome _;
       «masks::ct_is_zero_usize» = λ d. equation-one_outcome _;
-      «masks::select_u8» = λ a b choice. equation-one_outcome _;
-      «masks::select_u32» = λ a b choice. equation-one_outcome _;
-      «masks::select_usize» = λ a b choice. equation-one_outcome _;
+      «masks::select» = λ T a b choice. equation-one_outcome _;
       «big_endian::u16_from_be_bytes» = λ b. equation-one_outcome _;
       «big_endian::u32_from_be_bytes» = λ b. equation-one_outcome _;
       «big_endian::u64_from_be_bytes» = λ b. equation-one_outcome _;

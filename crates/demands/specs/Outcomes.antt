@@ -1,16 +1,16 @@
 -- One outcome: what each public function of the library states, given what stood at its entry, is met by one outcome
 -- only. Made by tools/calls from the text of each `ensures`; a crate that this one does not stand on has its laws
 -- beside its promises. Assumes nothing.
-use Rattle.std.specs.Prelude.{◌≡◌, ℕ, Bool, List, Result, ◌%◌, ◌+◌, ◌^◌, ◌-◌, ◌/◌, eqb, ltb, ◌++◌, replicate, take}
+use Rattle.std.specs.Prelude.{◌≡◌, ℕ, Bool, List, Result, ◌%◌, ◌+◌, ◌^◌, ◌-◌, ◌/◌, ltb, eqb, ◌++◌, replicate, take}
 use Rattle.std.specs.Prelude.{length}
 use Rattle.std.specs.Borrow.{Bor}
 use Rattle.answers.specs.Answers.{number as answers-number, number_of}
 use Rattle.answers.specs.declared.Refusal.{Refusal}
+use Rattle.words.specs.Lists.{zip_with, xor_each, agree}
 use Rattle.words.specs.Word.{◌⋘◌}
 use Rattle.words.specs.Promise.{Copied, Filled}
 use Rattle.words.specs.Choice.{bit, chosen}
 use Rattle.words.specs.Bytes.{number as words-number, be}
-use Rattle.words.specs.Lists.{xor_each, agree}
 use Rattle.sm3_compress.specs.Standard.{CF}
 use Rattle.sm3.specs.Standard.{bytes_of}
 use Rattle.sm3.specs.State.{fresh as sm3-fresh, update_of, updated as sm3-updated, digest_by}
@@ -84,12 +84,13 @@ abbrev pub Five : {A B C D E : Type 0} → (A → B → C → D → E → Type 0
 Five {A} {B} {C} {D} {E} P = (a b : A) (x y : B) (l k : C) (m n : D) (p q : E) → P a x l m p → P b y k n q
     → (a ≡ b) × (x ≡ y) × (l ≡ k) × (m ≡ n) × (p ≡ q)
 
--- a line for each public function, under its crate and name
-pub record Outcomes : Type 0 where
+-- a line for each public function, under its crate and name; over every type, where it is
+pub record Outcomes : Type 1 where
   -- answers
   pub «answers::Refusal::number» : (self : Refusal) → Equation (answers-number self)
-  pub «answers::number_of» : {T : Type 0} (answer : Result T Refusal) → Equation (number_of answer)
+  pub «answers::number_of» : (T : Type 0) (answer : Result T Refusal) → Equation (number_of answer)
   -- words
+  pub «words::xor_each» : (T : Type 0) (xored : T → T → T) (a b : List T) → Equation (zip_with xored a b)
   pub «words::rotate_left» : (x n : ℕ) → Equation (x ⋘ (n % 32))
   pub «words::wrapping_add3» : (x y z : ℕ) → Equation ((x + y + z) % 2 ^ 32)
   pub «words::wrapping_add4» : (w x y z : ℕ) → Equation ((w + x + y + z) % 2 ^ 32)
@@ -97,13 +98,10 @@ pub record Outcomes : Type 0 where
   pub «words::copy_at» : (out : List ℕ) (at : ℕ) (src : List ℕ) → One (Copied out at src)
   pub «words::fill_at» : (out : List ℕ) (at count byte : ℕ) → One (Filled out at count byte)
   -- masks
-  pub «masks::ct_eq_u8» : (a b : ℕ) → Equation (bit (eqb a b))
-  pub «masks::ct_eq_usize» : (a b : ℕ) → Equation (bit (eqb a b))
+  pub «masks::ct_eq» : (T : Type 0) (eq : T → T → Bool) (a b : T) → Equation (bit (eq a b))
   pub «masks::ct_lt_usize» : (a b : ℕ) → Equation (bit (ltb a b))
   pub «masks::ct_is_zero_usize» : (d : ℕ) → Equation (bit (eqb d 0))
-  pub «masks::select_u8» : (a b choice : ℕ) → Equation (chosen choice a b)
-  pub «masks::select_u32» : (a b choice : ℕ) → Equation (chosen choice a b)
-  pub «masks::select_usize» : (a b choice : ℕ) → Equation (chosen choice a b)
+  pub «masks::select» : (T : Type 0) (a b : T) (choice : ℕ) → Equation (chosen choice a b)
   -- big_endian
   pub «big_endian::u16_from_be_bytes» : (b : List ℕ) → Equation (words-number b)
   pub «big_endian::u32_from_be_bytes» : (b : List ℕ) → Equation (words-number b)
