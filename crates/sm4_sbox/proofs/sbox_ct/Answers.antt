@@ -1,25 +1,21 @@
 -- `sm4_sbox::sbox_ct` meets its contract. The loop's invariant: r and what is still to be added are the S-box at x.
 -- Assumes nothing.
 use mathlib.Core.Logic.{inl, inr}
-use mathlib.Core.Path.{◌≡◌, refl}
+use mathlib.Core.Path.{◌≡◌}
 use native.Mathlib.Omega.{arith}
 use borrow.Author.Rules.{rules}
-use lib.Dec.{lit≤}
 use Rattle.std.specs.Iterator.Adapters.{zip_first, zip_second}
 use Rattle.std.specs.Slice.Iter.{iter_rest}
 use Rattle.sm4_sbox.specs.declared.TheConstants.{S_BOX, COUNT}
-use Rattle.sm4_sbox.specs.Standard.{sbox_table, Sbox}
-use Rattle.sm4_sbox.proofs.Counts.{own, counts}
-use Rattle.sm4_sbox.proofs.Pass.{passing_all, passing_turn, passing-byte, passing_none}
+use Rattle.sm4_sbox.proofs.Pass.{passing_turn, passing-byte, passing_none}
+use Rattle.sm4_sbox.proofs.Start.{passing_start}
 use Rattle.sm4_sbox.proofs.sbox_ct.Goals as goal
 
--- the code's table is the standard's, and the other one counts
 pub loop-entry-init : goal.loop-entry-init
-unfolding own Sbox sbox_table
 loop-entry-init c =
     let entries : iter_rest (zip_first c.into_iter-entry-iterator.result) ≡ S_BOX = search rules in
     let places : iter_rest (zip_second c.into_iter-entry-iterator.result) ≡ COUNT = search rules in
-    rw (entries, places) (passing_all S_BOX COUNT c.args.x (lit≤ tt) (lit≤ tt) (counts COUNT tt (lit≤ tt)) refl)
+    rw (entries, places) (passing_start c.args.x)
 
 pub loop-entry-preserved : goal.loop-entry-preserved
 loop-entry-preserved c = passing_turn c.loop-entry.invariant c.in-Some.ensures.steps c.ct_eq_u8.ensures c.select_u8-r.ensures
