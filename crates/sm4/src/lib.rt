@@ -122,11 +122,13 @@ fn l_prime(b: u32) -> u32
 fn load(b: [u8; 16]) -> Quad
     ensures { result ≡ words_of b }
 {
-    let x0 = big_endian::u32_from_be_bytes([b[0], b[1], b[2], b[3]]);
-    let x1 = big_endian::u32_from_be_bytes([b[4], b[5], b[6], b[7]]);
-    let x2 = big_endian::u32_from_be_bytes([b[8], b[9], b[10], b[11]]);
-    let x3 = big_endian::u32_from_be_bytes([b[12], b[13], b[14], b[15]]);
-    Quad { x0, x1, x2, x3 }
+    let (words, _) = b.as_chunks::<4>();
+    Quad {
+        x0: big_endian::u32_from_be_bytes(words[0]),
+        x1: big_endian::u32_from_be_bytes(words[1]),
+        x2: big_endian::u32_from_be_bytes(words[2]),
+        x3: big_endian::u32_from_be_bytes(words[3]),
+    }
 }
 
 // The bytes of four words.
@@ -162,12 +164,11 @@ fn key_start(key: [u8; 16]) -> Quad
     ensures { result ≡ key_start key }
 {
     let mk = load(key);
-    let fk = FK;
     Quad {
-        x0: mk.x0 ^ fk[0],
-        x1: mk.x1 ^ fk[1],
-        x2: mk.x2 ^ fk[2],
-        x3: mk.x3 ^ fk[3],
+        x0: mk.x0 ^ FK[0],
+        x1: mk.x1 ^ FK[1],
+        x2: mk.x2 ^ FK[2],
+        x3: mk.x3 ^ FK[3],
     }
 }
 
