@@ -28,7 +28,8 @@ fn xor_blocks(a: [u8; 16], b: [u8; 16]) -> [u8; 16]
     out
 }
 
-// The whole blocks of body enciphered in place; the last (length mod 16) bytes stay as found.
+// The whole blocks of body enciphered in place; the last (length mod 16) bytes stay as found. By the number of the
+// block: the library does not say what a slice ends as behind `chunks_exact_mut`.
 pub fn encipher_cbc(cipher: Sm4Cipher, iv: [u8; 16], body: &mut [u8])
     ensures { Enciphered cipher iv body.old body.new }
 {

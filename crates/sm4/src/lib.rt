@@ -1,6 +1,6 @@
-// The block cipher SM4, GB/T 32907-2016: `Sm4Cipher` (new, encrypt_block, decrypt_block), the byte-table path of the Rust's
-// sm4/cipher.rs. Key, round keys and block are secret: no branch and no index depends on them. The number of a round and
-// the direction are public.
+// The block cipher SM4, GB/T 32907-2016: `Sm4Cipher` (new, encrypt_block, decrypt_block), the byte-table path of the
+// Rust's sm4/cipher.rs. Key, round keys and block are secret: no branch and no index depends on them. The number of a
+// round and the direction are public.
 #![tactic(auto)]
 
 ghost use Rattle.std.specs.Prelude.{[], ◌∷◌, ◌≡◌, ℕ};
@@ -82,9 +82,9 @@ pub struct Quad {
     pub x3: u32,
 }
 
-// The S-box at a, b, c, d: `sbox_ct` four times in one pass over the whole table, so that each entry is read once for the
-// four. The places are read off COUNT. The bytes come one by one: with [u8; 4] in their place there was a byte swap more in
-// each round on x86-64, and CBC made 14.3 to 14.7 MB/s to 15.0.
+// The S-box at a, b, c, d: `sbox_ct` four times in one pass over the whole table, so that each entry is read once for
+// the four. The places are read off COUNT. The bytes come one by one: with [u8; 4] in their place there was a byte swap
+// more in each round on x86-64, and CBC made 14.3 to 14.7 MB/s, not 15.0.
 fn select4(a: u8, b: u8, c: u8, d: u8) -> [u8; 4]
     ensures { result ≡ Sbox a ∷ Sbox b ∷ Sbox c ∷ Sbox d ∷ [] }
 {
@@ -131,7 +131,7 @@ fn load(b: [u8; 16]) -> Quad
     }
 }
 
-// The bytes of four words.
+// The bytes of four words, written out: the library does not say what an array ends as behind `as_chunks_mut`.
 fn store(q: Quad) -> [u8; 16]
     ensures { result ≡ bytes_of q }
 {

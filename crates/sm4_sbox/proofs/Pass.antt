@@ -1,5 +1,5 @@
--- A pass over the S-box and the places of its entries, side by side, that adds each entry whose place is x: where the places
--- count, the sum is the entry at x. Assumes nothing.
+-- A pass over the S-box and the places of its entries, side by side, that adds each entry whose place is x: where the
+-- places count, the sum is the entry at x. Assumes nothing.
 use mathlib.Core.List.{List, [], ◌∷◌}
 use mathlib.Core.Logic.{◌⊎◌, inl, inr}
 use mathlib.Core.Path.{◌≡◌, refl, sym, ap, ◌∙◌}
@@ -90,9 +90,14 @@ module _ {entries places : List ℕ} {x r : ℕ} (p : Passing entries places x r
       record { all = omega (arith, now, is) }
 
   -- no sum is above a byte
-  pub passing-byte : r < 256
+  passing-byte : r < 256
   passing-byte = omega (arith, p.all, Sbox-byte x)
 
   -- behind the last turn
   pub passing_none : (length entries ≡ 0) ⊎ (length places ≡ 0) → r ≡ Sbox x
   passing_none none = sym (add-zero r) ∙ ap (λ (n : ℕ). r + n) (sym (picked-none entries places x none)) ∙ p.all
+
+-- after a turn too
+pub passing_fits : {entries places : List ℕ} {x r : ℕ} → Passing entries places x r → {es ps : List ℕ} {e k m q : ℕ}
+    → (entries ≡ e ∷ es) × (places ≡ k ∷ ps) → m ≡ bit (eqb k x) → q ≡ chosen m 0 e → r + q < 256
+passing_fits p s h g = passing-byte (passing_turn p s h g)

@@ -41,8 +41,8 @@ pub const COUNT: [u8; 256] = [
     250, 251, 252, 253, 254, 255,
 ];
 
-// The S-box at x: the sum over all entries, of which one counts. The places are read off COUNT, so that only bytes are compared,
-// many at a time.
+// The S-box at x: the sum over all entries, of which one counts. The places are read off COUNT, so that only bytes are
+// compared, many at a time.
 pub fn sbox_ct(x: u8) -> u8
     ensures { result ≡ Sbox x }
 {

@@ -1,5 +1,5 @@
--- `sm4::expand` meets its contract. The loop's invariant: the first i round keys are there, those from k on are still to come,
--- and the other places hold their CK. Assumes nothing.
+-- `sm4::expand` meets its contract. The loop's invariant: the first i round keys are there, those from k on are still
+-- to come, and the other places hold their CK. Assumes nothing.
 use mathlib.Core.Bool.{Bool}
 use mathlib.Core.List.{◌++◌}
 use mathlib.Core.Path.{◌≡◌, refl, sym, ap, ◌∙◌}
@@ -33,14 +33,19 @@ pub loop-key-preserved : goal.loop-key-preserved
 loop-key-preserved c =
     let l = c.loop-key in
     let i = l.key-index in
-    let len : length l.key-items ≡ 32 = l.invariant.long in
-    let e = key_round_by l.k _ _ c.round-k.ensures ∙ ap (key_round l.k) (l.invariant.left i (omega arith) (omega arith)) in
+    let keys = l.key-items in
+    let x = c.round-k.result.x3 in
+    let len : length keys ≡ 32 = l.invariant.long in
+    let here = l.invariant.left i (omega arith) (omega arith) in
+    let e = key_round_by l.k _ _ c.round-k.ensures ∙ ap (key_round l.k) here in
     record {
-      long = length-set l.key-items i c.round-k.result.x3 ∙ len;
-      done = ap (λ (q : Quad). take (i + 1) (set l.key-items i q.x3) ++ keys_from q (i + 1) (32 - (i + 1))) e
-          ∙ keys-more l.key-items l.k i 32 (omega arith) (omega arith)
+      long = length-set keys i x ∙ len;
+      done = ap (λ (q : Quad). take (i + 1) (set keys i q.x3) ++ keys_from q (i + 1) (32 - (i + 1))) e
+          ∙ keys-more keys l.k i 32 (omega arith) (omega arith)
           ∙ l.invariant.done;
-      left = λ j b h. let other : ¬ (j ≡ i) = λ same. omega arith in get_or-set_other l.key-items i j c.round-k.result.x3 0 other ∙ l.invariant.left j (omega arith) h;
+      left = λ j b h.
+          let other : ¬ (j ≡ i) = λ same. omega arith in
+          get_or-set_other keys i j x 0 other ∙ l.invariant.left j (omega arith) h;
     }
 
 pub returns : goal.returns

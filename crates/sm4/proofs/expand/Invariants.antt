@@ -1,5 +1,5 @@
--- `sm4::expand` meets its contract. The loop's invariant: the first i round keys are there, those from k on are still to come,
--- and the other places hold their CK. Assumes nothing.
+-- `sm4::expand` meets its contract. The loop's invariant: the first i round keys are there, those from k on are still
+-- to come, and the other places hold their CK. Assumes nothing.
 use mathlib.Core.List.{◌++◌}
 use mathlib.Core.Path.{◌≡◌}
 use Prim.Native.Nat.{ℕ, ◌-◌, ◌≤◌, ◌<◌}

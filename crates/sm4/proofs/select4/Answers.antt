@@ -1,5 +1,5 @@
--- `sm4::select4` meets its contract. The loop's invariant: each of the four sums and what is still to be added to it are the
--- S-box at its byte. Assumes nothing.
+-- `sm4::select4` meets its contract. The loop's invariant: each of the four sums and what is still to be added to it
+-- are the S-box at its byte. Assumes nothing.
 use mathlib.Core.Logic.{◌⊎◌, inl, inr}
 use mathlib.Core.Path.{◌≡◌}
 use native.Mathlib.Omega.{arith}
@@ -8,7 +8,7 @@ use lib.ListN.{length}
 use Rattle.std.specs.Iterator.Adapters.{zip_first, zip_second}
 use Rattle.std.specs.Slice.Iter.{iter_rest}
 use Rattle.sm4_sbox.specs.declared.TheConstants.{S_BOX, COUNT}
-use Rattle.sm4_sbox.proofs.Pass.{passing_turn, passing-byte, passing_none}
+use Rattle.sm4_sbox.proofs.Pass.{passing_turn, passing_fits, passing_none}
 use Rattle.sm4_sbox.proofs.Start.{passing_start}
 use Rattle.sm4.proofs.select4.Goals as goal
 
@@ -21,26 +21,23 @@ loop-entry-init c =
 
 pub overflow_add-ra : goal.overflow_add-ra
 overflow_add-ra c =
-    let turn = passing_turn c.loop-entry.invariant.first c.in-Some.ensures.steps c.ct_eq_u8.ensures c.select_u8-ra.ensures in
-    omega (arith, passing-byte turn)
+    let sum = c.loop-entry.invariant.first in
+    omega (arith, passing_fits sum c.in-Some.ensures.steps c.ct_eq_u8.ensures c.select_u8-ra.ensures)
 
 pub overflow_add-rb : goal.overflow_add-rb
 overflow_add-rb c =
-    let turn =
-    passing_turn c.loop-entry.invariant.second c.in-Some.ensures.steps c.ct_eq_u8-in-loop-entry.ensures c.select_u8-rb.ensures in
-    omega (arith, passing-byte turn)
+    let sum = c.loop-entry.invariant.second in
+    omega (arith, passing_fits sum c.in-Some.ensures.steps c.ct_eq_u8-in-loop-entry.ensures c.select_u8-rb.ensures)
 
 pub overflow_add-rc : goal.overflow_add-rc
 overflow_add-rc c =
-    let turn =
-    passing_turn c.loop-entry.invariant.third c.in-Some.ensures.steps c.ct_eq_u8-in-loop-entry-2.ensures c.select_u8-rc.ensures in
-    omega (arith, passing-byte turn)
+    let sum = c.loop-entry.invariant.third in
+    omega (arith, passing_fits sum c.in-Some.ensures.steps c.ct_eq_u8-in-loop-entry-2.ensures c.select_u8-rc.ensures)
 
 pub overflow_add-rd : goal.overflow_add-rd
 overflow_add-rd c =
-    let turn =
-    passing_turn c.loop-entry.invariant.fourth c.in-Some.ensures.steps c.ct_eq_u8-in-loop-entry-3.ensures c.select_u8-rd.ensures in
-    omega (arith, passing-byte turn)
+    let sum = c.loop-entry.invariant.fourth in
+    omega (arith, passing_fits sum c.in-Some.ensures.steps c.ct_eq_u8-in-loop-entry-3.ensures c.select_u8-rd.ensures)
 
 pub loop-entry-preserved : goal.loop-entry-preserved
 loop-entry-preserved c =
@@ -55,7 +52,8 @@ loop-entry-preserved c =
 
 pub returns : goal.returns
 returns c =
-    let sums = c.loop-entry.invariant in
-    let none : (length c.loop-entry.entry-iterator.a.rest.now ≡ 0) ⊎ (length c.loop-entry.entry-iterator.b.rest.now ≡ 0) =
+    let s = c.loop-entry.invariant in
+    let left = c.loop-entry.entry-iterator in
+    let none : (length left.a.rest.now ≡ 0) ⊎ (length left.b.rest.now ≡ 0) =
     elim c.in-None.ensures.steps [ inl w ↦ inl w.1.0 | inr w ↦ inr w.1.0 ] in
-    rw (passing_none sums.first none, passing_none sums.second none, passing_none sums.third none, passing_none sums.fourth none)
+    rw (passing_none s.first none, passing_none s.second none, passing_none s.third none, passing_none s.fourth none)

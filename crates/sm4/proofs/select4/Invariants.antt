@@ -1,5 +1,5 @@
--- `sm4::select4` meets its contract. The loop's invariant: each of the four sums and what is still to be added to it are the
--- S-box at its byte. Assumes nothing.
+-- `sm4::select4` meets its contract. The loop's invariant: each of the four sums and what is still to be added to it
+-- are the S-box at its byte. Assumes nothing.
 use Rattle.sm4_sbox.proofs.Pass.{Passing}
 use Rattle.sm4.proofs.select4.Given as goal
 

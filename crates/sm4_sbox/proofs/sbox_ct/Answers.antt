@@ -7,7 +7,7 @@ use borrow.Author.Rules.{rules}
 use Rattle.std.specs.Iterator.Adapters.{zip_first, zip_second}
 use Rattle.std.specs.Slice.Iter.{iter_rest}
 use Rattle.sm4_sbox.specs.declared.TheConstants.{S_BOX, COUNT}
-use Rattle.sm4_sbox.proofs.Pass.{passing_turn, passing-byte, passing_none}
+use Rattle.sm4_sbox.proofs.Pass.{passing_turn, passing_fits, passing_none}
 use Rattle.sm4_sbox.proofs.Start.{passing_start}
 use Rattle.sm4_sbox.proofs.sbox_ct.Goals as goal
 
@@ -22,8 +22,7 @@ loop-entry-preserved c = passing_turn c.loop-entry.invariant c.in-Some.ensures.s
 
 pub overflow_add-r : goal.overflow_add-r
 overflow_add-r c =
-    let more = passing_turn c.loop-entry.invariant c.in-Some.ensures.steps c.ct_eq_u8.ensures c.select_u8-r.ensures in
-    omega (arith, passing-byte more)
+    omega (arith, passing_fits c.loop-entry.invariant c.in-Some.ensures.steps c.ct_eq_u8.ensures c.select_u8-r.ensures)
 
 pub returns : goal.returns
 returns c = passing_none c.loop-entry.invariant (elim c.in-None.ensures.steps [ inl w ↦ inl w.1.0 | inr w ↦ inr w.1.0 ])

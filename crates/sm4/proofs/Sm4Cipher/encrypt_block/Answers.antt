@@ -1,5 +1,5 @@
--- `Sm4Cipher::encrypt_block` meets its contract. The loop's invariant: the rounds still to come from x are all rounds from the
--- first words. Assumes nothing.
+-- `Sm4Cipher::encrypt_block` meets its contract. The loop's invariant: the rounds still to come from x are all rounds
+-- from the first words. Assumes nothing.
 use mathlib.Core.List.{List}
 use mathlib.Core.Path.{◌≡◌, sym, ap, ◌∙◌}
 use Prim.Native.Nat.{ℕ, ◌+◌}

@@ -1,5 +1,5 @@
--- `Sm4Cipher::encrypt_block` meets its contract. The loop's invariant: the rounds still to come from x are all rounds from the
--- first words. Assumes nothing.
+-- `Sm4Cipher::encrypt_block` meets its contract. The loop's invariant: the rounds still to come from x are all rounds
+-- from the first words. Assumes nothing.
 use mathlib.Core.Path.{◌≡◌}
 use lib.ListN.{drop}
 use Rattle.sm4.specs.Standard.{rounds}
