@@ -14,9 +14,7 @@ fn block_at(data: &[u8], at: usize) -> [u8; 16]
     requires { at + 16 ≤ length «data».now }
     ensures { result ≡ take 16 (drop at «data».now) }
 {
-    let mut block = [0u8; 16];
-    words::copy_at(&mut block, 0, &data[at..at + 16]);
-    block
+    *data[at..].first_chunk().unwrap()
 }
 
 // Each byte of a with that of b.
@@ -30,7 +28,8 @@ fn xor_blocks(a: [u8; 16], b: [u8; 16]) -> [u8; 16]
     out
 }
 
-// The whole blocks of body enciphered in place; the last (length mod 16) bytes stay as found.
+// The whole blocks of body enciphered in place; the last (length mod 16) bytes stay as found. By the number of the
+// block: the library does not say what a slice ends as behind `chunks_exact_mut`.
 pub fn encipher_cbc(cipher: Sm4Cipher, iv: [u8; 16], body: &mut [u8])
     ensures { Enciphered cipher iv body.old body.new }
 {
@@ -51,13 +50,10 @@ pub fn decipher_block_cbc(cipher: Sm4Cipher, record: &[u8], k: usize, out: &mut 
     ensures { Deciphered cipher «record».now k out.old out.new }
 {
     // in this order, so that k + 1 can't wrap
-    if k < out.len() / 16 {
-        if k + 1 < record.len() / 16 {
-            let at = k * 16;
-            let prev = block_at(record, at);
-            let opened = cipher.decrypt_block(block_at(record, at + 16));
-            let plain = xor_blocks(prev, opened);
-            words::copy_at(out, at, &plain);
-        }
+    if k < out.len() / 16 && k + 1 < record.len() / 16 {
+        let at = k * 16;
+        let prev = block_at(record, at);
+        let opened = cipher.decrypt_block(block_at(record, at + 16));
+        words::copy_at(out, at, &xor_blocks(prev, opened));
     }
 }

@@ -1,4 +1,3 @@
 pub mod AnnexA
-pub mod Boxes
 pub mod Inverse
 pub mod Rounds

@@ -1,29 +1,26 @@
--- What one turn of the loops over the round keys does to what is still to come, and the order of the keys. Assumes nothing.
-use mathlib.Core.Bool.{Bool, true, false}
-use mathlib.Core.List.{List, [], ◌∷◌, ◌++◌, append_assoc, append-nil, reverse, reverse-cons}
-use mathlib.Core.Path.{◌≡◌, refl, sym, ap, ◌∙◌}
-use Prim.Native.Nat.{ℕ, zero, suc, ◌+◌, ◌-◌, ◌≤◌, ◌<◌}
+-- What one turn of the loops over the round keys does to what is still to come. Assumes nothing.
+use mathlib.Core.List.{List, [], ◌∷◌, ◌++◌, append_assoc, append-nil}
+use mathlib.Core.Path.{◌≡◌, sym, ap, ◌∙◌}
+use Prim.Native.Nat.{ℕ, suc, ◌+◌, ◌-◌, ◌≤◌, ◌<◌}
 use native.Mathlib.Numerals.{add-one}
 use native.Mathlib.Omega.{arith}
-use lib.ListN.{length, get_or, set, take, drop, length-reverse, drop_of_length-le, get_or-append}
-use lib.Seq.{drop-cons, take-suc-set, take_all, get_or_at}
+use lib.ListN.{length, get_or, set, take, drop, drop_of_length-le}
+use lib.Seq.{drop-cons, take-suc-set, take_all}
 use Rattle.sm4.specs.declared.Quad.{Quad}
-use Rattle.sm4.specs.Standard.{round, rounds, CK, key_round, keys_from}
-use Rattle.sm4.specs.Tables.{ordered}
+use Rattle.words.specs.Word.{◌⊕◌}
+use Rattle.sm4.specs.Standard.{tau, L, T, F, moved, round, rounds, L', T', CK, key_round, keys_from}
 
--- element i of a list in reverse, where j elements stand behind it
-pub get_d_reverse : (l : List ℕ) (i j : ℕ) → i + j + 1 ≡ length l → get_or (reverse l) i 0 ≡ get_or l j 0
-get_d_reverse [] i j h = absurd (omega arith)
-get_d_reverse (x ∷ l) i zero h =
-    rw (reverse-cons x l) (get_or_at (reverse l) x [] 0 i (length-reverse l ∙ omega arith))
-get_d_reverse (x ∷ l) i (suc j) h =
-    rw (reverse-cons x l)
-    (get_or-append (reverse l) (x ∷ []) 0 i (rw length-reverse (omega arith)) ∙ get_d_reverse l i j (omega arith))
+-- a round as the code makes it, by L: what the call of L gave comes behind three words
+pub round_by : (X : Quad) (rk : ℕ) (Y : Quad)
+    → ((y : ℕ) × (y ≡ L (tau (X.x1 ⊕ X.x2 ⊕ X.x3 ⊕ rk))) × (Y ≡ moved X (X.x0 ⊕ y))) → Y ≡ round X rk
+unfolding round F T
+round_by X rk Y (y, e, is) = is ∙ ap (λ (w : ℕ). moved X (X.x0 ⊕ w)) e
 
--- in either order there are as many keys
-pub length-ordered : (r : Bool) (rks : List ℕ) → length (ordered r rks) ≡ length rks
-length-ordered true rks = length-reverse rks
-length-ordered false rks = refl
+-- and by L'
+pub key_round_by : (K : Quad) (ck : ℕ) (Y : Quad)
+    → ((y : ℕ) × (y ≡ L' (tau (K.x1 ⊕ K.x2 ⊕ K.x3 ⊕ ck))) × (Y ≡ moved K (K.x0 ⊕ y))) → Y ≡ key_round K ck
+unfolding key_round T'
+key_round_by K ck Y (y, e, is) = is ∙ ap (λ (w : ℕ). moved K (K.x0 ⊕ w)) e
 
 module _ (X : Quad) (rks : List ℕ) (i : ℕ) where
   -- the round with key i, and those behind it

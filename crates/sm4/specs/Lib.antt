@@ -1,4 +1,3 @@
 pub mod AnnexA
 pub mod Block
 pub mod Standard
-pub mod Tables

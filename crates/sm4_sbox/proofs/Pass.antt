@@ -1,63 +1,103 @@
--- A pass over a table that adds each entry times 1 at place x and 0 elsewhere: the sum after i entries is the entry at x
--- of the first i. Assumes nothing.
-use mathlib.Core.Bool.{Bool, true, false}
+-- A pass over the S-box and the places of its entries, side by side, that adds each entry whose place is x: where the
+-- places count, the sum is the entry at x. Assumes nothing.
 use mathlib.Core.List.{List, [], ◌∷◌}
-use mathlib.Core.Path.{◌≡◌, refl, sym, ap, ap₂, ◌∙◌}
-use Prim.Native.Nat.{ℕ, zero, suc, ◌+◌, ◌*◌, ◌<◌}
-use native.Mathlib.Nat.{add-zero, mul-one, mul-zero, zero-add, zero-mul}
-use native.Mathlib.Numerals.{add-one}
+use mathlib.Core.Logic.{◌⊎◌, inl, inr}
+use mathlib.Core.Path.{◌≡◌, refl, sym, ap, ◌∙◌}
+use Prim.Native.Nat.{ℕ, zero, suc, ◌+◌, ◌<◌, ◌≤◌}
+use native.Mathlib.Nat.{add-zero, zero-add}
 use native.Mathlib.Omega.{arith}
-use lib.Dec.{eqb, eqb-zero-suc, eqb-suc-zero, eqb-suc-suc, lit<}
-use lib.ListN.{get_or, take}
-use lib.Seq.{get_or-take}
+use lib.Dec.{eqb}
+use lib.ListN.{length, get_or}
+use Rattle.std.proofs.lemmas.Bool.{ne_eqb, eq-eqb}
 use Rattle.words.specs.Choice.{bit, chosen}
 use Rattle.words.proofs.Choice.{chosen-bit}
 use Rattle.sm4_sbox.specs.Pass.{Counts}
+use Rattle.sm4_sbox.specs.Standard.{Sbox}
+use Rattle.sm4_sbox.proofs.Once.{Sbox-byte}
 
--- one entry more
-pub pass_more : (t : List ℕ) (x i : ℕ) → get_or (take i t) x 0 + get_or t i 0 * bit (eqb i x) ≡ get_or (take (suc i) t) x 0
-pass_more [] x zero = simp (zero-mul, zero-add)
-pass_more [] x (suc i) = simp (zero-mul, zero-add)
-pass_more (y ∷ t) zero zero = simp (mul-one, zero-add)
-pass_more (y ∷ t) (suc x) zero = simp (eqb-zero-suc, mul-zero, zero-add)
-pass_more (y ∷ t) zero (suc i) = simp (eqb-suc-zero, mul-zero, add-zero)
-pass_more (y ∷ t) (suc x) (suc i) = rw (eqb-suc-suc i x) (pass_more t x i)
+-- what the pass adds
+abbrev pub picked : List ℕ → List ℕ → ℕ → ℕ
+picked [] places x = 0
+picked (e ∷ entries) [] x = 0
+picked (e ∷ entries) (k ∷ places) x = chosen (bit (eqb k x)) 0 e + picked entries places x
 
--- and no sum is above what is added
-pub pass_below : (b : ℕ) (t : List ℕ) (x i : ℕ) → 0 < b → get_or (take i t) x 0 < b → get_or t i 0 * bit (eqb i x) < b
-    → get_or (take (suc i) t) x 0 < b
-pass_below b [] x i p h k = p
-pass_below b (y ∷ t) zero zero p h k = rw mul-one at k
-pass_below b (y ∷ t) (suc x) zero p h k = p
-pass_below b (y ∷ t) zero (suc i) p h k = h
-pass_below b (y ∷ t) (suc x) (suc i) p h k = pass_below b t x i p h (rw eqb-suc-suc at k)
+-- the number at place j is i + j
+abbrev CountsFrom : ℕ → List ℕ → Type 0
+CountsFrom i l = (j : ℕ) → j < length l → get_or l j 0 ≡ i + j
 
--- an entry or 0 by a choice is the entry times 1 or 0
-chosen-times : (e : ℕ) (b : Bool) → chosen (bit b) 0 e ≡ e * bit b
-chosen-times e true = rw chosen-bit (sym (mul-one e))
-chosen-times e false = rw chosen-bit (sym (mul-zero e))
+-- one behind the first place
+behind : (i k : ℕ) (places : List ℕ) → CountsFrom i (k ∷ places) → CountsFrom (suc i) places
+behind i k places c j h = c (suc j) (omega arith) ∙ omega arith
 
--- r is the entry at x of the first i of t, and a byte
-pub record Passed (t : List ℕ) (x i r : ℕ) : Type 0 where
-  pub is : r ≡ get_or (take i t) x 0
-  pub byte : r < 256
+-- no pairs, nothing to add
+picked-none : (entries places : List ℕ) (x : ℕ) → (length entries ≡ 0) ⊎ (length places ≡ 0) → picked entries places x ≡ 0
+picked-none [] places x h = refl
+picked-none (e ∷ entries) [] x h = refl
+picked-none (e ∷ entries) (k ∷ places) x (inl h) = absurd (omega arith)
+picked-none (e ∷ entries) (k ∷ places) x (inr h) = absurd (omega arith)
+
+-- an entry at another place adds nothing
+other : (k x e n : ℕ) → ¬ (k ≡ x) → chosen (bit (eqb k x)) 0 e + n ≡ n
+other k x e n h = rw (ne_eqb k x h, chosen-bit) (zero-add n)
+
+-- nothing is added where x is before the first place
+picked-before : (i : ℕ) (entries places : List ℕ) (x : ℕ) → x < i → CountsFrom i places → picked entries places x ≡ 0
+picked-before i [] places x h c = refl
+picked-before i (e ∷ entries) [] x h c = refl
+picked-before i (e ∷ entries) (k ∷ places) x h c =
+    let first : k ≡ i + 0 = c 0 (omega arith) in
+    other k x e (picked entries places x) (λ same. omega arith)
+    ∙ picked-before (suc i) entries places x (omega arith) (behind i k places c)
+
+-- the sum is the entry at x, counted from the first place
+picked-from : (i : ℕ) (entries places : List ℕ) (x : ℕ) → length entries ≤ length places → CountsFrom i places
+    → picked entries places (i + x) ≡ get_or entries x 0
+picked-from i [] places x h c = refl
+picked-from i (e ∷ entries) [] x h c = absurd (omega arith)
+picked-from i (e ∷ entries) (k ∷ places) zero h c =
+    let first : k ≡ i + 0 = c 0 (omega arith) in
+    rw (eq-eqb k (i + 0) first, chosen-bit, picked-before (suc i) entries places (i + 0) (omega arith) (behind i k places c))
+    (add-zero e)
+picked-from i (e ∷ entries) (k ∷ places) (suc x) h c =
+    let first : k ≡ i + 0 = c 0 (omega arith) in
+    let next : i + suc x ≡ suc i + x = omega arith in
+    other k (i + suc x) e (picked entries places (i + suc x)) (λ same. omega arith)
+    ∙ ap (picked entries places) next
+    ∙ picked-from (suc i) entries places x (omega arith) (behind i k places c)
+
+-- r, and what is still to be added of the entries at the places, are the S-box at x
+pub record Passing (entries places : List ℕ) (x r : ℕ) : Type 0 where
+  pub all : r + picked entries places x ≡ Sbox x
 
 -- before the first turn
-pub pass_none : (t : List ℕ) (x : ℕ) → Passed t x 0 0
-pass_none t x = record { is = refl; byte = lit< tt }
+pub passing_all : (entries places : List ℕ) (x : ℕ) → length entries ≤ length places → length places ≤ 256 → Counts places
+    → get_or entries x 0 ≡ Sbox x → Passing entries places x 0
+passing_all entries places x h k c e =
+    record {
+      all = zero-add _
+          ∙ ap (picked entries places) (sym (zero-add x))
+          ∙ picked-from 0 entries places x h (λ j b. c.place j (omega arith) ∙ sym (zero-add j))
+          ∙ e;
+    }
 
--- a turn of the pass: entry i, if it is the one at x, is added
-pub pass_turn : (t n : List ℕ) (x i r m q : ℕ) → Counts n → i < 256 → Passed t x i r → q < 256
-    → m ≡ bit (eqb (get_or n i 0) x) → q ≡ chosen m 0 (get_or t i 0) → Passed t x (i + 1) (r + q)
-pass_turn t n x i r m q places h p byte test e =
-    let here : m ≡ bit (eqb i x) = test ∙ ap (λ (k : ℕ). bit (eqb k x)) (places.place i h) in
-    let is : q ≡ get_or t i 0 * bit (eqb i x) =
-    e ∙ ap (λ (k : ℕ). chosen k 0 (get_or t i 0)) here ∙ chosen-times (get_or t i 0) (eqb i x) in
-    let sum : r + q ≡ get_or (take (i + 1) t) x 0 = ap₂ (λ (a b : ℕ). a + b) p.is is ∙ rw (add-one i) (pass_more t x i) in
-    let below : get_or (take (i + 1) t) x 0 < 256 =
-    rw (add-one i) (pass_below 256 t x i (lit< tt) (rw p.is at p.byte) (rw is at byte)) in
-    record { is = sum; byte = omega (arith, sum, below) }
+module _ {entries places : List ℕ} {x r : ℕ} (p : Passing entries places x r) where
+  -- a turn: what the code picks of the first pair is added
+  pub passing_turn : {es ps : List ℕ} {e k m q : ℕ} → (entries ≡ e ∷ es) × (places ≡ k ∷ ps) → m ≡ bit (eqb k x)
+      → q ≡ chosen m 0 e → Passing es ps x (r + q)
+  passing_turn {es} {ps} {e} {k} {m} {q} (s, t) h g =
+      let now : r + (chosen (bit (eqb k x)) 0 e + picked es ps x) ≡ Sbox x = rw (s, t) at p.all in
+      let is : q ≡ chosen (bit (eqb k x)) 0 e = g ∙ ap (λ (b : ℕ). chosen b 0 e) h in
+      record { all = omega (arith, now, is) }
 
--- behind the last turn
-pub pass_all : (t : List ℕ) (x i r : ℕ) → x < i → Passed t x i r → r ≡ get_or t x 0
-pass_all t x i r h p = p.is ∙ get_or-take i t x 0 h
+  -- no sum is above a byte
+  passing-byte : r < 256
+  passing-byte = omega (arith, p.all, Sbox-byte x)
+
+  -- behind the last turn
+  pub passing_none : (length entries ≡ 0) ⊎ (length places ≡ 0) → r ≡ Sbox x
+  passing_none none = sym (add-zero r) ∙ ap (λ (n : ℕ). r + n) (sym (picked-none entries places x none)) ∙ p.all
+
+-- after a turn too
+pub passing_fits : {entries places : List ℕ} {x r : ℕ} → Passing entries places x r → {es ps : List ℕ} {e k m q : ℕ}
+    → (entries ≡ e ∷ es) × (places ≡ k ∷ ps) → m ≡ bit (eqb k x) → q ≡ chosen m 0 e → r + q < 256
+passing_fits p s h g = passing-byte (passing_turn p s h g)

@@ -2,8 +2,7 @@
 // The byte looked up is secret: no branch and no index depends on it, and every lookup passes over all 256 entries.
 #![tactic(auto)]
 
-ghost use Rattle.std.specs.Prelude.{◌≡◌, get_or};
-ghost use Rattle.sm4_sbox.specs.Pass.{Counts};
+ghost use Rattle.std.specs.Prelude.{◌≡◌};
 ghost use Rattle.sm4_sbox.specs.Standard.{Sbox};
 
 pub const S_BOX: [u8; 256] = [
@@ -42,8 +41,9 @@ pub const COUNT: [u8; 256] = [
     250, 251, 252, 253, 254, 255,
 ];
 
-// The entry of t at x: the sum over all entries, of which one counts. The places are read off n, so that only bytes are
+// The S-box at x: the sum over all entries, of which one counts. The places are read off COUNT, so that only bytes are
 // compared, many at a time.
+<<<<<<< HEAD
 fn select(t: &[u8; 256], n: &[u8; 256], x: u8) -> u8
     requires { Counts n.now }
     ensures { result ≡ get_or t.now x 0 }
@@ -56,8 +56,14 @@ fn select(t: &[u8; 256], n: &[u8; 256], x: u8) -> u8
 }
 
 // The S-box at x.
+=======
+>>>>>>> b5d940081d68fa4bc9576324540ba318b243a3d2
 pub fn sbox_ct(x: u8) -> u8
     ensures { result ≡ Sbox x }
 {
-    select(&S_BOX, &COUNT, x)
+    let mut r: u8 = 0;
+    for (entry, place) in S_BOX.iter().zip(&COUNT) {
+        r += masks::select(0, *entry, masks::ct_eq(*place, x));
+    }
+    r
 }

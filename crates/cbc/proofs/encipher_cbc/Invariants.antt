@@ -1,5 +1,5 @@
--- `cbc::encipher_cbc` meets its contract. The loop's invariant: the first k blocks are enciphered, the rest is as found, and
--- prev is what the next block is put on; the measure is how many blocks are left. Assumes nothing.
+-- `cbc::encipher_cbc` meets its contract. The loop's invariant: the first k blocks are enciphered, the rest is as
+-- found, and prev is what the next block is put on; the measure is how many blocks are left. Assumes nothing.
 use Prim.Native.Nat.{◌-◌}
 use Rattle.sm4.specs.Standard.{encrypt}
 use Rattle.cbc.proofs.Turn.{Done}

@@ -1,55 +1,59 @@
--- `sm4::select4` meets its contract. The loop's invariant: each of the four sums is the entry at its place of the first
--- i. Assumes nothing.
-use Prim.Native.Nat.{◌+◌}
+-- `sm4::select4` meets its contract. The loop's invariant: each of the four sums and what is still to be added to it
+-- are the S-box at its byte. Assumes nothing.
+use mathlib.Core.Logic.{◌⊎◌, inl, inr}
+use mathlib.Core.Path.{◌≡◌}
 use native.Mathlib.Omega.{arith}
-use Rattle.sm4_sbox.proofs.Pass.{Passed, pass_none, pass_turn, pass_all}
+use borrow.Author.Rules.{rules}
+use lib.ListN.{length}
+use Rattle.std.specs.Iterator.Adapters.{zip_first, zip_second}
+use Rattle.std.specs.Slice.Iter.{iter_rest}
+use Rattle.sm4_sbox.specs.declared.TheConstants.{S_BOX, COUNT}
+use Rattle.sm4_sbox.proofs.Pass.{passing_turn, passing_fits, passing_none}
+use Rattle.sm4_sbox.proofs.Start.{passing_start}
 use Rattle.sm4.proofs.select4.Goals as goal
 
-pub loop-i-init : goal.loop-i-init
-loop-i-init c = (omega arith, pass_none _ _, pass_none _ _, pass_none _ _, pass_none _ _)
+pub loop-entry-init : goal.loop-entry-init
+loop-entry-init c =
+    let entries : iter_rest (zip_first c.into_iter-entry-iterator.result) ≡ S_BOX = search rules in
+    let places : iter_rest (zip_second c.into_iter-entry-iterator.result) ≡ COUNT = search rules in
+    rw (entries, places)
+    (record { first = passing_start _; second = passing_start _; third = passing_start _; fourth = passing_start _ })
 
--- entry i of the table, counted for a
 pub overflow_add-ra : goal.overflow_add-ra
 overflow_add-ra c =
-    let turn : Passed c.args.t.now c.args.a (c.loop-i.i + 1) (c.loop-i.ra + c.select-ra.result) =
-    pass_turn _ _ _ _ _ _ _ c.requires (omega arith) c.loop-i.invariant.1 (omega arith) c.ct_eq.ensures c.select-ra.ensures in
-    omega (arith, turn.byte)
+    let sum = c.loop-entry.invariant.first in
+    omega (arith, passing_fits sum c.in-Some.ensures.steps c.ct_eq.ensures c.select-ra.ensures)
 
--- entry i of the table, counted for b
 pub overflow_add-rb : goal.overflow_add-rb
 overflow_add-rb c =
-    let turn : Passed c.args.t.now c.args.b (c.loop-i.i + 1) (c.loop-i.rb + c.select-rb.result) =
-    pass_turn _ _ _ _ _ _ _ c.requires (omega arith) c.loop-i.invariant.2 (omega arith) c.ct_eq-in-loop-i.ensures c.select-rb.ensures in
-    omega (arith, turn.byte)
+    let sum = c.loop-entry.invariant.second in
+    omega (arith, passing_fits sum c.in-Some.ensures.steps c.ct_eq-in-loop-entry.ensures c.select-rb.ensures)
 
--- entry i of the table, counted for c
 pub overflow_add-rc : goal.overflow_add-rc
 overflow_add-rc c =
-    let turn : Passed c.args.t.now c.args.c (c.loop-i.i + 1) (c.loop-i.rc + c.select-rc.result) =
-    pass_turn _ _ _ _ _ _ _ c.requires (omega arith) c.loop-i.invariant.3 (omega arith) c.ct_eq-in-loop-i-2.ensures c.select-rc.ensures in
-    omega (arith, turn.byte)
+    let sum = c.loop-entry.invariant.third in
+    omega (arith, passing_fits sum c.in-Some.ensures.steps c.ct_eq-in-loop-entry-2.ensures c.select-rc.ensures)
 
--- entry i of the table, counted for d
 pub overflow_add-rd : goal.overflow_add-rd
 overflow_add-rd c =
-    let turn : Passed c.args.t.now c.args.d (c.loop-i.i + 1) (c.loop-i.rd + c.select-rd.result) =
-    pass_turn _ _ _ _ _ _ _ c.requires (omega arith) c.loop-i.invariant.4 (omega arith) c.ct_eq-in-loop-i-3.ensures c.select-rd.ensures in
-    omega (arith, turn.byte)
+    let sum = c.loop-entry.invariant.fourth in
+    omega (arith, passing_fits sum c.in-Some.ensures.steps c.ct_eq-in-loop-entry-3.ensures c.select-rd.ensures)
 
-pub loop-i-preserved : goal.loop-i-preserved
-loop-i-preserved c = (
-  omega arith,
-  pass_turn _ _ _ _ _ _ _ c.requires (omega arith) c.loop-i.invariant.1 (omega arith) c.ct_eq.ensures c.select-ra.ensures,
-  pass_turn _ _ _ _ _ _ _ c.requires (omega arith) c.loop-i.invariant.2 (omega arith) c.ct_eq-in-loop-i.ensures c.select-rb.ensures,
-  pass_turn _ _ _ _ _ _ _ c.requires (omega arith) c.loop-i.invariant.3 (omega arith) c.ct_eq-in-loop-i-2.ensures c.select-rc.ensures,
-  pass_turn _ _ _ _ _ _ _ c.requires (omega arith) c.loop-i.invariant.4 (omega arith) c.ct_eq-in-loop-i-3.ensures c.select-rd.ensures,
-)
+pub loop-entry-preserved : goal.loop-entry-preserved
+loop-entry-preserved c =
+    let sums = c.loop-entry.invariant in
+    let pair = c.in-Some.ensures.steps in
+    record {
+      first = passing_turn sums.first pair c.ct_eq.ensures c.select-ra.ensures;
+      second = passing_turn sums.second pair c.ct_eq-in-loop-entry.ensures c.select-rb.ensures;
+      third = passing_turn sums.third pair c.ct_eq-in-loop-entry-2.ensures c.select-rc.ensures;
+      fourth = passing_turn sums.fourth pair c.ct_eq-in-loop-entry-3.ensures c.select-rd.ensures;
+    }
 
 pub returns : goal.returns
 returns c =
-    rw (
-      pass_all _ _ _ _ (omega arith) c.loop-i.invariant.1,
-      pass_all _ _ _ _ (omega arith) c.loop-i.invariant.2,
-      pass_all _ _ _ _ (omega arith) c.loop-i.invariant.3,
-      pass_all _ _ _ _ (omega arith) c.loop-i.invariant.4,
-    )
+    let s = c.loop-entry.invariant in
+    let left = c.loop-entry.entry-iterator in
+    let none : (length left.a.rest.now ≡ 0) ⊎ (length left.b.rest.now ≡ 0) =
+    elim c.in-None.ensures.steps [ inl w ↦ inl w.1.0 | inr w ↦ inr w.1.0 ] in
+    rw (passing_none s.first none, passing_none s.second none, passing_none s.third none, passing_none s.fourth none)

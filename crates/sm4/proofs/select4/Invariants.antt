@@ -1,11 +1,14 @@
--- `sm4::select4` meets its contract. The loop's invariant: each of the four sums is the entry at its place of the first
--- i; the measure is what is left of 256. Assumes nothing.
-use Prim.Native.Nat.{◌-◌, ◌≤◌}
-use Rattle.sm4_sbox.proofs.Pass.{Passed}
+-- `sm4::select4` meets its contract. The loop's invariant: each of the four sums and what is still to be added to it
+-- are the S-box at its byte. Assumes nothing.
+use Rattle.sm4_sbox.proofs.Pass.{Passing}
 use Rattle.sm4.proofs.select4.Given as goal
 
-abbrev pub invariant-loop-i : goal.invariant-loop-i
-invariant-loop-i l = (l.i ≤ 256) × Passed l.t l.a l.i l.ra × Passed l.t l.b l.i l.rb × Passed l.t l.c l.i l.rc × Passed l.t l.d l.i l.rd
-
-abbrev pub decreases-loop-i : goal.decreases-loop-i
-decreases-loop-i l = 256 - l.i
+abbrev pub invariant-loop-entry : goal.invariant-loop-entry
+invariant-loop-entry l =
+    let sums = Passing l.entry-iterator.a.rest.now l.entry-iterator.b.rest.now in
+    record {
+      first : sums l.a l.ra;
+      second : sums l.b l.rb;
+      third : sums l.c l.rc;
+      fourth : sums l.d l.rd;
+    }

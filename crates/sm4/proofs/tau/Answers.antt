@@ -5,14 +5,4 @@ use Rattle.sm4.proofs.tau.Goals as goal
 
 pub returns : goal.returns
 unfolding tau be
-returns c =
-    simp (
-      c.u32_from_be_bytes.ensures,
-      c.select4.ensures,
-      c.requires.entry,
-      c.u32_to_be_bytes-b.ensures,
-    )
-
-pub select4-requires : goal.select4-requires
-select4-requires c =
-    c.requires.places
+returns c = simp (c.u32_from_be_bytes.ensures, c.select4.ensures, c.u32_to_be_bytes.ensures)
