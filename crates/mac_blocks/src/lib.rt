@@ -52,8 +52,8 @@ fn count_of(total: usize) -> [u8; 8]
 }
 
 // Byte p of header and data, zero behind them: p and the lengths are public.
-fn candidate(header: [u8; 13], data: &[u8], p: usize) -> u8
-    ensures { result ≡ get_or (header ++ «data».now) p 0 }
+fn candidate(header: &[u8; 13], data: &[u8], p: usize) -> u8
+    ensures { result ≡ get_or (header.now ++ «data».now) p 0 }
 {
     if p < HEADER_LEN {
         header[p]
@@ -105,7 +105,7 @@ impl<'a> Message<'a> {
     {
         let end = HEADER_LEN + self.held;
         let in_text = masks::ct_lt_usize(p, end);
-        let text = masks::select_u8(0, candidate(self.header, self.data, p), in_text);
+        let text = masks::select_u8(0, candidate(&self.header, self.data, p), in_text);
         masks::select_u8(text, 0x80, masks::ct_eq_usize(p, end))
     }
 
@@ -120,8 +120,8 @@ impl<'a> Message<'a> {
     }
 
     // Byte i of block b, which has this count in it or zeros: no byte of text or 0x80 stands where a count does.
-    fn byte_at(&self, counted: [u8; 8], b: usize, i: usize) -> u8
-        requires { (b < 2 ^ 58) × (i < 64) × (counted ≡ count_in self.now b) }
+    fn byte_at(&self, counted: &[u8; 8], b: usize, i: usize) -> u8
+        requires { (b < 2 ^ 58) × (i < 64) × (counted.now ≡ count_in self.now b) }
         ensures { result ≡ byte_at self.now b i }
     {
         let byte = self.marked_byte(b * BLOCK_SIZE + i);
@@ -143,7 +143,7 @@ impl<'a> Message<'a> {
         }
         let counted = self.count_in(b);
         for (i, byte) in block.iter_mut().enumerate() {
-            *byte = self.byte_at(counted, b, i);
+            *byte = self.byte_at(&counted, b, i);
         }
         block
     }

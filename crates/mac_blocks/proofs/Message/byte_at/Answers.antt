@@ -14,5 +14,5 @@ returns-then-i c = let a = c.args in c.marked_byte-byte.ensures ∙ sym (byte-fi
 pub returns : goal.returns
 returns c =
     let a = c.args in
-    ap (λ (x : ℕ). bit_xor x (get_or a.counted (a.i - 56) 0)) c.marked_byte-byte.ensures
-    ∙ last_by_xor a.self.now a.b a.i a.counted (omega arith) c.requires.1 c.requires.2
+    ap (λ (x : ℕ). bit_xor x (get_or a.counted.now (a.i - 56) 0)) c.marked_byte-byte.ensures
+    ∙ last_by_xor a.self.now a.b a.i a.counted.now (omega arith) c.requires.1 c.requires.2
