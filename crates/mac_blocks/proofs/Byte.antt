@@ -3,8 +3,7 @@
 use mathlib.Core.Bool.{Bool, true, false, cond}
 use mathlib.Core.List.{List, [], ◌∷◌, ◌++◌, append_assoc}
 use mathlib.Core.Path.{◌≡◌, refl, sym, ap, ◌∙◌}
-use Prim.Native.Nat.{ℕ, zero, suc, ◌+◌, ◌-◌, ◌*◌, ◌/◌, ◌≤◌, ◌<◌, min}
-use native.Mathlib.Numerals.{unary_clauses}
+use Prim.Native.Nat.{ℕ, zero, suc, ◌+◌, ◌-◌, ◌*◌, ◌/◌, ◌≤◌, ◌<◌}
 use native.Mathlib.Omega.{arith}
 use borrow.Author.Tests.{ltb-true, ltb-false, eqb-true, eqb-false}
 use lib.Arith.{lt_of_le-ne}
@@ -115,12 +114,6 @@ module _ (m : List ℕ) where
           get_or-eq_default marked 0 (omega (arith, eqb-true b (final m) f, length-append m (0x80 ∷ []))) in
           rw z (xor_zero_l (get_or (count (64 + length m)) (i - 56) 0))
       by false f = rw (get_or-replicate_self 8 (i - 56) 0) (xor_zero_r (get_or marked (b * 64 + i) 0))
-
--- no more is taken than there is
-pub take_min : (n : ℕ) (l : List ℕ) → take (min n (length l)) l ≡ take n l
-take_min zero l = simp unary_clauses
-take_min (suc n) [] = simp unary_clauses
-take_min (suc n) (x ∷ l) = simp unary_clauses (ap (λ (r : List ℕ). x ∷ r) (take_min n l))
 
 -- the header h and a text, the first n bytes of d
 pub length-text : (h d : List ℕ) (n : ℕ) → n ≤ length d → length (h ++ take n d) ≡ length h + n

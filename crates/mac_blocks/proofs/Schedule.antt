@@ -9,7 +9,7 @@ use borrow.Author.Tests.{leb-true, leb-false, eqb-true, eqb-false, le-leb, lt-le
 use lib.Arith.{lt_of_le-ne}
 use lib.Dec.{leb, eqb}
 use lib.ListN.{length, get_or, replicate, get_or-eq_default}
-use Rattle.words.proofs.Lists.{table_ext, as_table, length-block, get_or-block, get_or-replicate_self}
+use Rattle.words.proofs.Lists.{table_ext, as_table, length-table, get_or-table, length-block, get_or-block, get_or-replicate_self}
 use Rattle.words.specs.Lists.{block}
 use Rattle.sm3_compress.specs.Standard.{CF}
 use Rattle.sm3.specs.Standard.{iterated, iteration, bytes_of, SM3}
@@ -17,6 +17,15 @@ use Rattle.hmac.proofs.Mac.{inner_block, outer_block, mac-blocks}
 use Rattle.hmac.specs.Rfc2104.{HMAC}
 use Rattle.mac_blocks.specs.Schedule.{ended, byte_at, schedule, final, absorbed, inner_key, outer_key, outer_digest}
 use Rattle.mac_blocks.proofs.Byte.{length-ended}
+
+-- a block of the schedule, byte by byte
+pub length-schedule : (m : List ℕ) (b : ℕ) → length (schedule m b) ≡ 64
+unfolding schedule
+length-schedule m b = length-table (byte_at m b) 64
+
+pub get_or-schedule : (m : List ℕ) (b i : ℕ) → i < 64 → get_or (schedule m b) i 0 ≡ byte_at m b i
+unfolding schedule
+get_or-schedule m b i h = get_or-table (byte_at m b) 64 i 0 h
 
 -- behind the final block all bytes are zero
 pub schedule-zero : (m : List ℕ) (b : ℕ) → final m < b → schedule m b ≡ replicate 64 0

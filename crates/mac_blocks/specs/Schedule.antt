@@ -1,9 +1,9 @@
 -- HMAC-SM3 of a message block by block: RFC 2104's two key blocks, and the message with SM3's ending behind the first of them,
 -- cut into blocks of which all behind the final one are zero. Assumes nothing.
-use Rattle.std.specs.Prelude.{cond, List, ◌++◌, ℕ, zero, suc, ◌+◌, ◌*◌, ◌/◌, eqb, length, get_or}
+use Rattle.std.specs.Prelude.{cond, List, ◌++◌, ℕ, zero, suc, ◌+◌, ◌*◌, ◌/◌, eqb, length, get_or, replicate}
 use Rattle.words.specs.Lists.{table, xor_each}
 use Rattle.sm3_compress.specs.Standard.{CF}
-use Rattle.sm3.specs.Standard.{IV, ending, bytes_of, SM3}
+use Rattle.sm3.specs.Standard.{IV, count, ending, bytes_of, SM3}
 use Rattle.hmac.specs.Rfc2104.{ipad, opad, K'}
 use Rattle.mac_blocks.specs.declared.MacWords.{MacWords}
 
@@ -22,6 +22,10 @@ schedule m b = table (byte_at m b) 64
 -- the number of the final block, which holds the bit count
 unfoldable pub final : List ℕ → ℕ
 final m = (length m + 8) / 64
+
+-- the bit count of all bytes, in the final block, and zeros in any other: 8 bytes
+abbrev pub count_in : List ℕ → ℕ → List ℕ
+count_in m b = cond (eqb b (final m)) (count (64 + length m)) (replicate 8 0)
 
 -- the words after the first j blocks, from v on
 unfoldable pub absorbed : List ℕ → List ℕ → ℕ → List ℕ

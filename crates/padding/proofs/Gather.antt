@@ -1,6 +1,6 @@
 -- A number into which others are ORed one by one is 0 exactly if each of them is. Assumes nothing.
 use mathlib.Core.Logic.{◌↔◌, ◌⊎◌, inl, inr}
-use mathlib.Core.Path.{◌≡◌, refl, ap, ◌∙◌}
+use mathlib.Core.Path.{◌≡◌, ap, ◌∙◌}
 use Prim.Native.Nat.{ℕ, ◌+◌, ◌≤◌, ◌<◌}
 use native.Mathlib.Nat.{eq-or-lt_of_le}
 use native.Mathlib.Omega.{arith}
@@ -10,10 +10,6 @@ use Rattle.words.proofs.Xor.{or-zero}
 -- d is 0 exactly if each of f 0, .., f (n - 1) is
 abbrev pub Gathers : (ℕ → ℕ) → ℕ → ℕ → Type 0
 Gathers f n d = (d ≡ 0) ↔ ((i : ℕ) → i < n → f i ≡ 0)
-
--- nothing is gathered yet
-pub gathers-none : (f : ℕ → ℕ) → Gathers f 0 0
-gathers-none f = (λ e i b. omega arith, λ h. refl)
 
 -- one more is gathered
 pub gathers-more : (f : ℕ → ℕ) (n d : ℕ) → Gathers f n d → Gathers f (n + 1) (bit_or d (f n))

@@ -1,3 +1,4 @@
+mod Back
 pub mod Gather
 mod Reach
 mod Report

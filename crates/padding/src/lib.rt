@@ -2,25 +2,19 @@
 // tlcp/record.rs. The body's length is public; its bytes, and so the padding's length, are not.
 #![tactic(auto)]
 
-ghost use Rattle.std.specs.Prelude.{cond, ◌&&◌, ◌≡◌, ◌+◌, min, eqb, ltb};
+ghost use Rattle.std.specs.Prelude.{cond, ◌&&◌, ◌≡◌, ◌+◌, eqb, ltb};
 ghost use Rattle.words.specs.Word.{◌⊕◌};
 ghost use Rattle.record.specs.Opened.{last_byte, pad_fits, good_pad};
 ghost use Rattle.padding.specs.Scan.{checked};
 
 use record::MAC_LEN;
 
-// pad_ok is 1 where the padding is good, else 0; held is the length at which the MAC is worked out and compared.
+// pad_ok is 1 where the padding is good, else 0; held is the length at which the MAC is worked out and compared. Two numbers
+// and no Option, which could be read by a branch on the mark alone; and the scope makes this pair a struct.
 #[derive(Clone, Copy)]
 pub struct Padding {
     pub pad_ok: u8,
     pub held: usize,
-}
-
-// How many bytes are looked at, from the last one back: as many as the longest padding has, or all. Public, as n is.
-fn window(n: usize) -> usize
-    ensures { result ≡ min 256 n }
-{
-    if n < 256 { n } else { 256 }
 }
 
 // What the byte i places before the last differs from the padding's by; 0 where the padding does not reach it.
@@ -31,17 +25,16 @@ fn differs(byte: u8, padlen: u8, i: usize) -> u8
     masks::select(0, byte ^ padlen, in_pad)
 }
 
-// The differences of the bytes that the padding reaches, ORed: 0 where a padding that fits is good. The window is public: the
-// loop ends neither at the padding's first byte nor at one that differs.
+// The differences of the bytes that the padding reaches, ORed: 0 where a padding that fits is good. As many bytes are looked
+// at, from the last one back, as the longest padding has, or all: the loop ends neither at the padding's first byte nor at
+// one that differs.
 fn differences(body: &[u8], padlen: u8) -> u8
     requires { padlen ≡ last_byte body.now }
     ensures { good_pad body.now ≡ (pad_fits body.now && eqb result 0) }
 {
-    let n = body.len();
-    let w = window(n);
     let mut bad: u8 = 0;
-    for i in 0..w {
-        bad = bad | differs(body[n - 1 - i], padlen, i);
+    for (i, byte) in body.iter().rev().take(256).enumerate() {
+        bad |= differs(*byte, padlen, i);
     }
     bad
 }

@@ -3,14 +3,14 @@
 // slices are public; the text's length, the marks and all bytes are not.
 #![tactic(auto)]
 
-ghost use Rattle.std.specs.Prelude.{cond, ◌≡◌, ◌%◌, eqb, length};
-ghost use Rattle.record.specs.Limits.{mac_len};
+ghost use Rattle.std.specs.Prelude.{cond, ◌≡◌, ◌%◌, eqb};
 ghost use Rattle.verdict.specs.Promise.{Cleared};
 ghost use Rattle.verdict.specs.Verdict.{extracted, verdict_of};
 
 use answers::{BAD_RECORD, DONE};
 use record::MAC_LEN;
 
+// An answer with a length beside it and no Option: either is chosen by masks, and nothing branches on which of them it is.
 #[derive(Clone, Copy)]
 pub struct Verdict {
     pub answer: u8,
@@ -18,37 +18,36 @@ pub struct Verdict {
 }
 
 // part where the lowest bit of hit is 1, else out: each byte is read and written either way.
-fn copy_where(out: [u8; 32], part: &[u8], hit: u8) -> [u8; 32]
-    requires { length part.now ≡ mac_len }
-    ensures { result ≡ cond (eqb (hit % 2) 1) part.now out }
+fn copy_where(out: &mut [u8; MAC_LEN], part: &[u8; MAC_LEN], hit: u8)
+    ensures { out.new ≡ cond (eqb (hit % 2) 1) part.now out.old }
 {
-    let mut r = out;
-    for j in 0..MAC_LEN {
-        r[j] = masks::select(r[j], part[j], hit);
+    for (j, byte) in out.iter_mut().enumerate() {
+        *byte = masks::select(*byte, part[j], hit);
     }
-    r
 }
 
 // The MAC behind plaintext_len bytes of body, by a scan over all places that a MAC in front of a length byte can have;
 // zeros where it has none of them.
-pub fn extract_mac_ct(body: &[u8], plaintext_len: usize) -> [u8; 32]
+pub fn extract_mac_ct(body: &[u8], plaintext_len: usize) -> [u8; MAC_LEN]
     ensures { result ≡ extracted body.now plaintext_len }
 {
-    let n = body.len();
-    let mut out = [0u8; 32];
-    if MAC_LEN < n {
-        // how many places there are follows from n alone, and each of them is read
-        for i in 0..n - MAC_LEN {
-            let hit = masks::ct_eq(i, plaintext_len);
-            let next = copy_where(out, &body[i..i + MAC_LEN], hit);
-            out = next;
+    let mut out = [0u8; MAC_LEN];
+    if let Some((_, front)) = body.split_last() {
+        // how many places there are in front of the last byte follows from the body's length alone, and each is read
+        for (i, part) in front.array_windows::<MAC_LEN>().enumerate() {
+            copy_where(&mut out, part, masks::ct_eq(i, plaintext_len));
         }
     }
     out
 }
 
 // Answer 0 with the length held exactly if the padding is good and the MACs agree, else answer 6 with length 0.
-pub fn verdict_ct(pad_ok: bool, received: [u8; 32], computed: [u8; 32], held: usize) -> Verdict
+pub fn verdict_ct(
+    pad_ok: bool,
+    received: [u8; MAC_LEN],
+    computed: [u8; MAC_LEN],
+    held: usize,
+) -> Verdict
     ensures { result ≡ verdict_of pad_ok received computed held }
 {
     // both tests as numbers, so that neither is left out where the other fails
@@ -63,7 +62,7 @@ pub fn clear_from_ct(body: &mut [u8], keep: usize)
     ensures { Cleared body.old keep body.new }
 {
     // as many turns as there are bytes, which is public
-    for i in 0..body.len() {
-        body[i] = masks::select(0, body[i], masks::ct_lt_usize(i, keep));
+    for (i, byte) in body.iter_mut().enumerate() {
+        *byte = masks::select(0, *byte, masks::ct_lt_usize(i, keep));
     }
 }

@@ -1,10 +1,7 @@
 -- `mac_blocks::outer_key` meets its contract: one compression of the key's block. Assumes nothing.
-use mathlib.Core.Path.{ap, ◌∙◌}
-use Rattle.sm3_compress.specs.Standard.{CF}
-use Rattle.sm3.specs.Standard.{IV}
 use Rattle.mac_blocks.specs.Schedule.{outer_key}
 use Rattle.mac_blocks.proofs.outer_key.Goals as goal
 
 pub returns : goal.returns
 unfolding outer_key
-returns c = c.compress.ensures ∙ ap (CF IV) c.key_block.ensures
+returns c = c.key_words.ensures
