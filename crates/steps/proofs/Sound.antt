@@ -27,6 +27,20 @@ start-passed r room e = go (size_answer r) refl (ltb room (r - 16)) refl e
     go zero f true g z = absurd (omega arith)
     go (suc a) f b g z = absurd (suc-ne-zero a (rw (ne_eqb (suc a) 0 (suc-ne-zero a)) at z))
 
+-- a body that is allowed has room for a MAC and a length byte, and its length is small
+pub allowed_least : (n : ℕ) → allowed n ≡ true → 33 ≤ n
+allowed_least n e = omega (arith, (allowed_facts n e).least)
+
+pub allowed_most : (n : ℕ) → allowed n ≡ true → n ≤ 16432
+allowed_most n e = (allowed_facts n e).most
+
+-- a record of a right size has an IV
+pub has_iv : (r : ℕ) → size_answer r ≡ Done → 16 ≤ r
+has_iv r e = omega (arith, (passed r e).0)
+
+pub started_has_iv : (r room : ℕ) → start_answer r room ≡ Done → 16 ≤ r
+started_has_iv r room e = omega (arith, (start-passed r room e).0)
+
 -- the ranges of an opening, for a record of r bytes and so much room
 pub record Sound (s : OpeningCbc) (r room : ℕ) : Type 0 where
   pub body : Allowed s.n
@@ -80,9 +94,9 @@ module _ (n k : ℕ) where
   at-decipher a = rw (lt-ltb _ _ a)
 
   -- and only those decipher
-  pub deciphered-below : {j : ℕ} → Work.Decipher j ≡ work_at n k → j < blocks n
+  pub decipher_below : (j : ℕ) → Work.Decipher j ≡ work_at n k → j < blocks n
   unfolding work_at
-  deciphered-below {j} e = by (ltb k (blocks n)) refl (eqb k (blocks n)) (ltb k (blocks n + 1 + mac_steps n)) (eqb k (blocks n + 1 + mac_steps n)) (eqb k (blocks n + 2 + mac_steps n)) e
+  decipher_below j e = by (ltb k (blocks n)) refl (eqb k (blocks n)) (ltb k (blocks n + 1 + mac_steps n)) (eqb k (blocks n + 1 + mac_steps n)) (eqb k (blocks n + 2 + mac_steps n)) e
     where
       by : (a : Bool) → ltb k (blocks n) ≡ a → (b c d f : Bool)
           → Work.Decipher j ≡ cond a (Work.Decipher k) (cond b Work.ReadPadding (cond c (Work.Inner (k - (blocks n + 1))) (cond d Work.OuterPad (cond f Work.OuterHash Work.Answering))))

@@ -83,7 +83,8 @@ fn refusal(opening: OpeningCbc, answer: u8) -> Stepped
     }
 }
 
-// The size answer, then 2 where the output is shorter than the body.
+// The size answer, then 2 where the output is shorter than the body: a number, as `size_answer` gives one.
+#[tactic(auto, unfolding(crate::specs::State::start_answer), using(crate::proofs::Sound::has_iv))]
 fn start_answer(record_len: usize, room: usize) -> u8
     ensures { result ≡ start_answer record_len room }
 {
@@ -98,6 +99,7 @@ fn start_answer(record_len: usize, room: usize) -> u8
 // An opening of a record of record_len bytes into an output of room bytes; no byte of either is read. A refusal (3, 4, 5, then
 // 2) hands back the all-zero opening. Keys, number, type and version stay apart, in the Rust's order: `Sealer` and `Given` of
 // crates/demands/specs are functions of these.
+#[tactic(auto, unfolding(crate::specs::State::started, crate::specs::State::begun, crate::specs::State::ended_with), using(crate::proofs::Sound::started_has_iv))]
 pub fn start_cbc(
     keys: RecordKeysCbc,
     seq: u64,
@@ -150,6 +152,7 @@ fn out_of_steps(opening: OpeningCbc) -> bool
 }
 
 // The opening breaks its ranges, or does not belong to this record and output: answer 7.
+#[tactic(auto, unfolding(crate::specs::Step::broken), using(crate::proofs::Sound::allowed_least, crate::proofs::Sound::allowed_most))]
 fn is_broken(opening: OpeningCbc, record_len: usize, room: usize) -> bool
     ensures { result ≡ broken opening record_len room }
 {
@@ -177,6 +180,7 @@ pub enum Work {
 impl Work {
     // The work for a body of n bytes with this number of steps done: m blocks, the padding, B blocks, and the last three. The
     // bounds follow from n, so that no pattern has them.
+    #[tactic(auto, unfolding(crate::specs::Work::work_at, sizes::specs::Sizes::mac_steps))]
     fn at(n: usize, done: usize) -> Work
         ensures { result ≡ work_at n done }
     {
@@ -198,7 +202,8 @@ impl Work {
     }
 }
 
-// An opening that is not broken and has not ended, so that a step is left: what each piece of work may count on.
+// An opening that is not broken and has not ended, so that a step is left: what each piece of work may count on. Record and output
+// are lent beside it: inside, a clause would name what was written by its place, `self.exit.1.1.0.now`.
 #[derive(Clone, Copy)]
 struct Live {
     opening: OpeningCbc,
@@ -301,6 +306,7 @@ impl Live {
     }
 
     // The work that follows from the sizes and the number of steps done.
+    #[tactic(auto, unfolding(crate::specs::Step::report_by, crate::specs::Step::opening_by, crate::specs::Step::output_by), using(crate::proofs::Sound::decipher_below))]
     fn work(self, record: &[u8], out: &mut [u8]) -> Stepped
         requires { (length «record».now ≡ self.opening.n + iv_len) × (self.opening.n ≤ length out.old) }
         ensures state { result ≡ report_by (work_at self.opening.n self.opening.done) self.opening out.old }
@@ -319,6 +325,7 @@ impl Live {
 
 // One step. Answer 7, then answer 8, leave opening and output as they are; record and output are read only where the step's
 // work says so.
+#[tactic(auto, unfolding(crate::specs::Step::stepped, crate::specs::Step::output_after), using(crate::proofs::Sound::sound, crate::proofs::Sound::one_more))]
 pub fn step_cbc(opening: OpeningCbc, record: &[u8], out: &mut [u8]) -> Stepped
     ensures { Step opening «record».now out.old result out.new }
 {
