@@ -17,9 +17,10 @@ use Rattle.verdict.specs.declared.Verdict.{Verdict}
 use Rattle.verdict.specs.Verdict.{verdict_of}
 use Rattle.steps.specs.declared.OpeningCbc.{OpeningCbc}
 use Rattle.steps.specs.declared.Stepped.{Stepped}
+use Rattle.steps.specs.declared.Work.{Work}
 use Rattle.steps.specs.State.{report, ended_with, all_zero, start_answer}
 use Rattle.steps.specs.Step.{broken, verdict, report_by, output_by, stepped, output_after}
-use Rattle.steps.specs.Work.{Work, work_at}
+use Rattle.steps.specs.Work.{work_at}
 use Rattle.steps.proofs.Sound.{sound, unbroken, one_more}
 use Rattle.opening.specs.Closed.{report_after}
 use Rattle.opening.specs.Deprotected.{body_after}
@@ -240,12 +241,12 @@ out_of_range s r room out = by (broken s r room) refl
 -- the answer of a piece of work is 0 or 6, and so neither 7 nor 8
 work-answers : (w : Work) (s : OpeningCbc) (o : List ℕ) → ((report_by w s o).answer ≡ BadState → ⊥) × ((report_by w s o).answer ≡ Ended → ⊥)
 unfolding report_by verdict verdict_of
-work-answers (Work.decipher k) s o = (λ e. omega arith, λ e. omega arith)
-work-answers Work.read_padding s o = (λ e. omega arith, λ e. omega arith)
-work-answers (Work.inner j) s o = (λ e. omega arith, λ e. omega arith)
-work-answers Work.outer_pad s o = (λ e. omega arith, λ e. omega arith)
-work-answers Work.outer_hash s o = (λ e. omega arith, λ e. omega arith)
-work-answers Work.answering s o = by (s.pad_ok && agree (take mac_len (drop s.held o)) (bytes_of s.words))
+work-answers (Work.Decipher k) s o = (λ e. omega arith, λ e. omega arith)
+work-answers Work.ReadPadding s o = (λ e. omega arith, λ e. omega arith)
+work-answers (Work.Inner j) s o = (λ e. omega arith, λ e. omega arith)
+work-answers Work.OuterPad s o = (λ e. omega arith, λ e. omega arith)
+work-answers Work.OuterHash s o = (λ e. omega arith, λ e. omega arith)
+work-answers Work.Answering s o = by (s.pad_ok && agree (take mac_len (drop s.held o)) (bytes_of s.words))
   where
     verdict_answer : Bool → ℕ
     verdict_answer t = (cond {A = Verdict} t (record { answer = Done; length = s.held }) (record { answer = BadRecord; length = 0 })).answer

@@ -14,9 +14,10 @@ use Rattle.record.specs.Opened.{held}
 use Rattle.sizes.specs.Sizes.{blocks, total_steps}
 use Rattle.sizes.proofs.Passed.{facts_allowed}
 use Rattle.steps.specs.declared.Stepped.{Stepped}
+use Rattle.steps.specs.declared.Work.{Work}
 use Rattle.steps.specs.State.{begun, start_answer, started}
 use Rattle.steps.specs.Step.{broken, stepped, output_after}
-use Rattle.steps.specs.Work.{Work, decipher, read_padding, inner, outer_pad, outer_hash, answering, work_at}
+use Rattle.steps.specs.Work.{work_at}
 use Rattle.steps.proofs.Sound.{at-decipher, at-padding, at_inner, at_outer_pad, at_outer_hash, at-answering}
 use Rattle.opening.specs.Closed.{held_after, running, report_after, out_after, after}
 use Rattle.opening.specs.Given.{Given, size, decrypted}
@@ -74,14 +75,14 @@ module _ (g : Given) {o : List ℕ} (f : Fits g o) where
       by : Place (size g) k
           → (stepped (report_after g k).opening g.r (out_after g o k) ≡ report_after g (suc k))
           × (output_after (report_after g k).opening g.r (out_after g o k) ≡ out_after g o (suc k))
-      by (deciphers b) = works k (decipher k) h (at-decipher (size g) k b) (turn-deciphers g f k b)
-      by (reads e) = works k read_padding h (at-padding (size g) k e) (rw e (turn-reads g f))
+      by (deciphers b) = works k (Work.Decipher k) h (at-decipher (size g) k b) (turn-deciphers g f k b)
+      by (reads e) = works k Work.ReadPadding h (at-padding (size g) k e) (rw e (turn-reads g f))
       by (hashes j b e) =
           let is : k - (blocks (size g) + 1) ≡ j = omega arith in
-          works k (inner j) h (at_inner (size g) k (omega arith) (omega arith) ∙ ap inner is) (rw e (turn-hashes g f j b))
-      by (pads e) = works k outer_pad h (at_outer_pad (size g) k e) (rw e (turn-pads g f))
-      by (ends e) = works k outer_hash h (at_outer_hash (size g) k e) (rw e (turn-ends g f))
-      by (answers e) = works k answering h (at-answering (size g) k (omega arith)) (rw e (turn-answers g f))
+          works k (Work.Inner j) h (at_inner (size g) k (omega arith) (omega arith) ∙ ap Work.Inner is) (rw e (turn-hashes g f j b))
+      by (pads e) = works k Work.OuterPad h (at_outer_pad (size g) k e) (rw e (turn-pads g f))
+      by (ends e) = works k Work.OuterHash h (at_outer_hash (size g) k e) (rw e (turn-ends g f))
+      by (answers e) = works k Work.Answering h (at-answering (size g) k (omega arith)) (rw e (turn-answers g f))
 
   -- ---- from the start
 

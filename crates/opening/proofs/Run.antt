@@ -11,7 +11,6 @@ use lib.Dec.{eqb}
 use lib.ListN.{length}
 use Rattle.answers.specs.Answers.{Done}
 use Rattle.sizes.specs.Sizes.{total_steps}
-use Rattle.sizes.proofs.Passed.{total-small}
 use Rattle.steps.specs.declared.Stepped.{Stepped}
 use Rattle.steps.specs.State.{report, ended_with, all_zero, start_answer, started}
 use Rattle.steps.specs.Step.{stepped, output_after}
@@ -20,7 +19,7 @@ use Rattle.opening.specs.Deprotected.{deprotected, output_of}
 use Rattle.opening.specs.Given.{Given, size}
 use Rattle.opening.proofs.Closed.{begins, goes_on}
 use Rattle.opening.proofs.Fits.{fits}
-use Rattle.opening.proofs.Output.{out-end, length-out}
+use Rattle.opening.proofs.Output.{out-end}
 use Rattle.opening.proofs.Refused.{refused-start}
 use Rattle.opening.proofs.Turn.{report_before, report-end}
 
@@ -31,7 +30,6 @@ first g o = start_answer (length g.r) (length o)
 -- after k of total steps, over an output that held o
 pub record Run (g : Given) (o : List ℕ) (total : ℕ) (s : Stepped) (out : List ℕ) (k : ℕ) : Type 0 where
   pub two : length g.version ≡ 2
-  pub within : k ≤ total
   pub accepted : first g o ≡ Done → (total ≡ total_steps (size g)) × (s ≡ report_after g k) × (out ≡ out_after g o k)
   pub refused : (first g o ≡ Done → ⊥) → (total ≡ 0) × (s ≡ report all_zero (first g o) 0 0) × (out ≡ o)
 
@@ -42,7 +40,6 @@ unfolding running total_steps ended_with
 run_none g o s v e =
     record {
       two = v;
-      within = omega arith;
       accepted = λ h.
           let b = begins g (fits g o v h) h in
           let is : s ≡ report_after g 0 = e ∙ b.0 in
@@ -60,7 +57,6 @@ module _ {g : Given} {o : List ℕ} {total : ℕ} {s : Stepped} {out : List ℕ}
   run_more s' out' b e d =
       record {
         two = l.two;
-        within = omega arith;
         accepted = λ h.
             let a = l.accepted h in
             let t = goes_on g (fits g o l.two h) k (omega (arith, a.0)) in
@@ -68,37 +64,17 @@ module _ {g : Given} {o : List ℕ} {total : ℕ} {s : Stepped} {out : List ℕ}
         refused = λ h. absurd (omega (arith, (l.refused h).0));
       }
 
-  -- the length stays
-  pub run_length : length out ≡ length o
-  run_length = by (eqb (first g o) Done) refl
-    where
-      by : (t : Bool) → eqb (first g o) Done ≡ t → length out ≡ length o
-      by true e =
-          let h = eqb-true (first g o) Done e in
-          ap length (l.accepted h).2 ∙ length-out g (fits g o l.two h) k
-      by false e = ap length (l.refused (eqb-false (first g o) Done e)).2
-
-  -- no count of steps wraps
-  pub run_small : total < 1289
-  run_small = by (eqb (first g o) Done) refl
-    where
-      by : (t : Bool) → eqb (first g o) Done ≡ t → total < 1289
-      by true e =
-          let h = eqb-true (first g o) Done e in
-          omega (arith, (l.accepted h).0, total-small (size g) (fits g o l.two h).body)
-      by false e = omega (arith, (l.refused (eqb-false (first g o) Done e)).0)
-
   -- after the last step
-  pub run_all : total ≤ k
+  pub run_all : k ≤ total → total ≤ k
       → (record { answer = s.answer; length = s.length; count = s.count } ≡ deprotected g (length o)) × (out ≡ output_of g o)
   unfolding deprotected output_of
-  run_all b = by (eqb (first g o) Done) refl
+  run_all w b = by (eqb (first g o) Done) refl
     where
       by : (t : Bool) → eqb (first g o) Done ≡ t
           → (record { answer = s.answer; length = s.length; count = s.count } ≡ deprotected g (length o)) × (out ≡ output_of g o)
       by true e =
           let a = l.accepted (eqb-true (first g o) Done e) in
-          let n : k ≡ total_steps (size g) = omega (arith, a.0, l.within) in
+          let n : k ≡ total_steps (size g) = omega (arith, a.0) in
           (rw (e, a.1, n, report-end g), rw (e, a.2, n, out-end g o))
       by false e =
           let a = l.refused (eqb-false (first g o) Done e) in

@@ -16,7 +16,7 @@ use Rattle.mac_blocks.specs.Schedule.{final, absorbed, inner_key, inner_block, o
 use Rattle.mac_blocks.proofs.Schedule.{keep_turn}
 use Rattle.steps.specs.State.{zero_words, report, ended_with}
 use Rattle.steps.specs.Step.{changed, message, hashed, verdict, opening_by, report_by, output_by}
-use Rattle.steps.specs.Work.{Work, decipher, read_padding, inner, outer_pad, outer_hash, answering}
+use Rattle.steps.specs.declared.Work.{Work}
 use Rattle.opening.specs.Closed.{words_after, kept_after, held_after, mark_after, running, report_after, out_after}
 use Rattle.opening.specs.Given.{Given, size, decrypted, covered, answer_in, length_in}
 use Rattle.opening.proofs.Fields.{words-none, words-inner, words_pad, words-end, kept-none, kept-inner, kept-past, held_none, held_read, mark-none, mark_read}
@@ -65,7 +65,7 @@ module _ (g : Given) {o : List ℕ} (f : Fits g o) where
   stays k h b = out-body g f k h (omega arith) ∙ sym (out-body g f (suc k) (omega arith) b)
 
   -- a block deciphered
-  pub turn-deciphers : (k : ℕ) → k < m → Turns g o k (decipher k)
+  pub turn-deciphers : (k : ℕ) → k < m → Turns g o k (Work.Decipher k)
   unfolding report_by opening_by output_by running total_steps
   turn-deciphers k h = (
     moves g k (words_after g k) (kept_after g k) (held_after g k) (mark_after g k) (omega arith)
@@ -77,7 +77,7 @@ module _ (g : Given) {o : List ℕ} (f : Fits g o) where
   )
 
   -- the padding read, and the inner hash's key block
-  pub turn-reads : Turns g o m read_padding
+  pub turn-reads : Turns g o m Work.ReadPadding
   unfolding report_by opening_by output_by running total_steps absorbed
   turn-reads =
       let o1 = out_after g o m in
@@ -111,7 +111,7 @@ module _ (g : Given) {o : List ℕ} (f : Fits g o) where
       (ap (λ (v : List ℕ). record { words = run (suc j); kept = v }) (keep_turn j (final c) run zero_words))
 
   -- a block of them, the words kept where it is the final one
-  pub turn-hashes : (j : ℕ) → j < B → Turns g o (m + 1 + j) (inner j)
+  pub turn-hashes : (j : ℕ) → j < B → Turns g o (m + 1 + j) (Work.Inner j)
   unfolding report_by opening_by output_by running total_steps
   turn-hashes j h =
       let k = m + 1 + j in
@@ -125,7 +125,7 @@ module _ (g : Given) {o : List ℕ} (f : Fits g o) where
       )
 
   -- the outer hash's key block
-  pub turn-pads : Turns g o (m + 1 + B) outer_pad
+  pub turn-pads : Turns g o (m + 1 + B) Work.OuterPad
   unfolding report_by opening_by output_by running total_steps
   turn-pads =
       let k = m + 1 + B in
@@ -139,7 +139,7 @@ module _ (g : Given) {o : List ℕ} (f : Fits g o) where
       )
 
   -- the kept digest with its ending
-  pub turn-ends : Turns g o (m + 2 + B) outer_hash
+  pub turn-ends : Turns g o (m + 2 + B) Work.OuterHash
   unfolding report_by opening_by output_by running total_steps
   turn-ends =
       let k = m + 2 + B in
@@ -161,7 +161,7 @@ module _ (g : Given) {o : List ℕ} (f : Fits g o) where
       (verdict-at-end g f)
 
   -- the answer, and what is no text cleared
-  pub turn-answers : Turns g o (m + 3 + B) answering
+  pub turn-answers : Turns g o (m + 3 + B) Work.Answering
   unfolding report_by opening_by output_by running total_steps
   turn-answers =
       let k = m + 3 + B in

@@ -5,7 +5,8 @@ ghost use Rattle.opening.specs.Promise.{Deprotected};
 
 use record::RecordKeysCbc;
 
-// Answer, text length and the number of steps that were made.
+// Answer, text length and the number of steps that were made. The answer is a number and no Result, as in `Stepped`: masks make the
+// verdict, and SameReports and RefusalsAlike (crates/demands/specs/Steppers.antt) speak of all three on every path.
 #[derive(Clone, Copy)]
 pub struct Opened {
     pub answer: u8,
@@ -15,7 +16,8 @@ pub struct Opened {
 
 // The record's text laid over the front of out, zeros behind it up to the body's length n, the rest of out as found; the
 // text's length is reported. Wrong padding or a wrong MAC is answer 6, with the first n bytes zero. Answers 3, 4, 5 and 2,
-// tested in this order, leave out as found. The loop's bound is public, and no answer is looked at.
+// tested in this order, leave out as found. The loop's bound is public, and no answer is looked at. Keys, number, type and version
+// stay apart, as in `start_cbc`.
 pub fn deprotect_cbc(
     keys: RecordKeysCbc,
     seq: u64,
@@ -28,12 +30,8 @@ pub fn deprotect_cbc(
 {
     let mut s = steps::start_cbc(keys, seq, content_type, version, record.len(), out.len());
     // a refused start has no steps
-    let total = s.opening.total;
-    let mut k: usize = 0;
-    while k < total {
-        let opening = s.opening;
-        s = steps::step_cbc(opening, record, out);
-        k += 1;
+    for _ in 0..s.opening.total {
+        s = steps::step_cbc(s.opening, record, out);
     }
     Opened {
         answer: s.answer,

@@ -15,8 +15,9 @@ use Rattle.verdict.specs.declared.Verdict.{Verdict}
 use Rattle.verdict.specs.Verdict.{verdict_of, cleared_from}
 use Rattle.steps.specs.declared.OpeningCbc.{OpeningCbc}
 use Rattle.steps.specs.declared.Stepped.{Stepped}
+use Rattle.steps.specs.declared.Work.{Work}
 use Rattle.steps.specs.State.{report, ended_with}
-use Rattle.steps.specs.Work.{Work, decipher, read_padding, inner, outer_pad, outer_hash, answering, work_at}
+use Rattle.steps.specs.Work.{work_at}
 
 -- answer 7, for a record of r bytes and so much room: n not allowed, T not that of n, T or more steps done in an opening not
 -- ended, the length held above n - 33, the record not of n + 16 bytes, or the output below n
@@ -67,30 +68,30 @@ verdict s o = verdict_of s.pad_ok (take mac_len (drop s.held o)) (bytes_of s.wor
 
 -- the opening after a piece of work
 unfoldable pub opening_by : Work → OpeningCbc → List ℕ → OpeningCbc
-opening_by (decipher k) s o = changed s s.words s.kept s.held s.pad_ok
-opening_by read_padding s o = changed s (inner_key s.mac_key) s.kept (heldIn (body s o)) (good_pad (body s o))
-opening_by (inner j) s o = changed s (hashed s o j).words (hashed s o j).kept s.held s.pad_ok
-opening_by outer_pad s o = changed s (outer_key s.mac_key) s.kept s.held s.pad_ok
-opening_by outer_hash s o = changed s (outer_digest s.words s.kept) s.kept s.held s.pad_ok
-opening_by answering s o = ended_with s.n s.total true (verdict s o).answer
+opening_by (Work.Decipher k) s o = changed s s.words s.kept s.held s.pad_ok
+opening_by Work.ReadPadding s o = changed s (inner_key s.mac_key) s.kept (heldIn (body s o)) (good_pad (body s o))
+opening_by (Work.Inner j) s o = changed s (hashed s o j).words (hashed s o j).kept s.held s.pad_ok
+opening_by Work.OuterPad s o = changed s (outer_key s.mac_key) s.kept s.held s.pad_ok
+opening_by Work.OuterHash s o = changed s (outer_digest s.words s.kept) s.kept s.held s.pad_ok
+opening_by Work.Answering s o = ended_with s.n s.total true (verdict s o).answer
 
 -- what is reported with it: the number of steps done, and at the end the verdict and T
 unfoldable pub report_by : Work → OpeningCbc → List ℕ → Stepped
-report_by (decipher k) s o = report (opening_by (decipher k) s o) Done 0 (s.done + 1)
-report_by read_padding s o = report (opening_by read_padding s o) Done 0 (s.done + 1)
-report_by (inner j) s o = report (opening_by (inner j) s o) Done 0 (s.done + 1)
-report_by outer_pad s o = report (opening_by outer_pad s o) Done 0 (s.done + 1)
-report_by outer_hash s o = report (opening_by outer_hash s o) Done 0 (s.done + 1)
-report_by answering s o = report (opening_by answering s o) (verdict s o).answer (verdict s o).length s.total
+report_by (Work.Decipher k) s o = report (opening_by (Work.Decipher k) s o) Done 0 (s.done + 1)
+report_by Work.ReadPadding s o = report (opening_by Work.ReadPadding s o) Done 0 (s.done + 1)
+report_by (Work.Inner j) s o = report (opening_by (Work.Inner j) s o) Done 0 (s.done + 1)
+report_by Work.OuterPad s o = report (opening_by Work.OuterPad s o) Done 0 (s.done + 1)
+report_by Work.OuterHash s o = report (opening_by Work.OuterHash s o) Done 0 (s.done + 1)
+report_by Work.Answering s o = report (opening_by Work.Answering s o) (verdict s o).answer (verdict s o).length s.total
 
 -- the output after it: a block deciphered, or what is no text cleared; every other step only reads
 unfoldable pub output_by : Work → OpeningCbc → List ℕ → List ℕ → List ℕ
-output_by (decipher k) s r o = put (k * 16) (plain (decrypt (round_keys_of s.enc_key)) r k) o
-output_by read_padding s r o = o
-output_by (inner j) s r o = o
-output_by outer_pad s r o = o
-output_by outer_hash s r o = o
-output_by answering s r o = cleared_from (verdict s o).length (body s o) ++ drop s.n o
+output_by (Work.Decipher k) s r o = put (k * 16) (plain (decrypt (round_keys_of s.enc_key)) r k) o
+output_by Work.ReadPadding s r o = o
+output_by (Work.Inner j) s r o = o
+output_by Work.OuterPad s r o = o
+output_by Work.OuterHash s r o = o
+output_by Work.Answering s r o = cleared_from (verdict s o).length (body s o) ++ drop s.n o
 
 -- `step_cbc`: 7, then 8, then the work
 unfoldable pub stepped : OpeningCbc → List ℕ → List ℕ → Stepped

@@ -9,7 +9,7 @@ ghost use Rattle.record.specs.Limits.{iv_len};
 ghost use Rattle.steps.specs.Promise.{Step};
 ghost use Rattle.steps.specs.State.{started, ended_with, start_answer, report};
 ghost use Rattle.steps.specs.Step.{broken, changed, report_by, output_by};
-ghost use Rattle.steps.specs.Work.{decipher, read_padding, inner, outer_pad, outer_hash, answering, work_at};
+ghost use Rattle.steps.specs.Work.{work_at};
 
 use answers::{BAD_STATE, DONE, ENDED, NO_ROOM};
 use mac_blocks::MacWords;
@@ -17,6 +17,8 @@ use record::{IV_LEN, MAC_LEN, RecordKeysCbc};
 use sm4::Sm4Cipher;
 
 // An opening that has been started: what the steps so far have found, and the number of steps done. All zero before a start.
+// The fields, the ended mark beside its answer among them, are those that the scope lists and that `Place` and `InRange` of
+// crates/demands/specs/Steppers.antt read.
 #[derive(Clone, Copy)]
 pub struct OpeningCbc {
     pub words: [u32; 8],
@@ -35,7 +37,9 @@ pub struct OpeningCbc {
     pub answer: u8,
 }
 
-// The opening after a start or a step, and the report: answer, text length, steps done.
+// The opening after a start or a step, and the report: answer, text length, steps done. The answer is a number and no Result:
+// masks make the verdict, so that a Result would be a branch on it, and SameReports, SameCount and RefusedStart (there) speak of
+// all four on every path.
 #[derive(Clone, Copy)]
 pub struct Stepped {
     pub opening: OpeningCbc,
@@ -45,21 +49,18 @@ pub struct Stepped {
 }
 
 // An opening that has ended keeps its sizes and its answer, and nothing of what was deciphered.
+#[tactic(auto, unfolding(crate::specs::State::ended_with))]
 fn ended_with(n: usize, total: usize, ended: bool, answer: u8) -> OpeningCbc
     ensures { result ≡ ended_with n total ended answer }
 {
-    let zero_words = [0u32; 8];
-    let zero_mac_key = [0u8; 32];
-    let zero_enc_key = [0u8; 16];
-    let zero_version = [0u8; 2];
     OpeningCbc {
-        words: zero_words,
-        kept: zero_words,
-        mac_key: zero_mac_key,
-        enc_key: zero_enc_key,
+        words: [0; 8],
+        kept: [0; 8],
+        mac_key: [0; 32],
+        enc_key: [0; 16],
         seq: 0,
         content_type: 0,
-        version: zero_version,
+        version: [0; 2],
         n,
         total,
         done: 0,
@@ -70,22 +71,35 @@ fn ended_with(n: usize, total: usize, ended: bool, answer: u8) -> OpeningCbc
     }
 }
 
-// The size answer, then 2 where the output is shorter than the body.
+// A refusal: the opening as given, no text and no step.
+fn refusal(opening: OpeningCbc, answer: u8) -> Stepped
+    ensures { result ≡ report opening answer 0 0 }
+{
+    Stepped {
+        opening,
+        answer,
+        length: 0,
+        count: 0,
+    }
+}
+
+// The size answer, then 2 where the output is shorter than the body: a number, as `size_answer` gives one.
+#[tactic(auto, unfolding(crate::specs::State::start_answer), using(crate::proofs::Sound::has_iv))]
 fn start_answer(record_len: usize, room: usize) -> u8
     ensures { result ≡ start_answer record_len room }
 {
     let size = sizes::size_answer(record_len);
-    if size != DONE {
-        return size;
+    if size == DONE && room < record_len - IV_LEN {
+        NO_ROOM
+    } else {
+        size
     }
-    if room < record_len - IV_LEN {
-        return NO_ROOM;
-    }
-    DONE
 }
 
 // An opening of a record of record_len bytes into an output of room bytes; no byte of either is read. A refusal (3, 4, 5, then
-// 2) hands back the all-zero opening.
+// 2) hands back the all-zero opening. Keys, number, type and version stay apart, in the Rust's order: `Sealer` and `Given` of
+// crates/demands/specs are functions of these.
+#[tactic(auto, unfolding(crate::specs::State::started, crate::specs::State::begun, crate::specs::State::ended_with), using(crate::proofs::Sound::started_has_iv))]
 pub fn start_cbc(
     keys: RecordKeysCbc,
     seq: u64,
@@ -99,25 +113,20 @@ pub fn start_cbc(
     let answer = start_answer(record_len, room);
     let zero = ended_with(0, 0, false, 0);
     if answer != DONE {
-        return Stepped {
-            opening: zero,
-            answer,
-            length: 0,
-            count: 0,
-        };
+        return refusal(zero, answer);
     }
+    let RecordKeysCbc { mac_key, enc_key } = keys;
     let n = record_len - IV_LEN;
-    let total = sizes::total_steps(n);
-    let mut opening = zero;
-    let mac_key = keys.mac_key;
-    let enc_key = keys.enc_key;
-    opening.mac_key = mac_key;
-    opening.enc_key = enc_key;
-    opening.seq = seq;
-    opening.content_type = content_type;
-    opening.version = version;
-    opening.n = n;
-    opening.total = total;
+    let opening = OpeningCbc {
+        mac_key,
+        enc_key,
+        seq,
+        content_type,
+        version,
+        n,
+        total: sizes::total_steps(n),
+        ..zero
+    };
     Stepped {
         opening,
         answer: DONE,
@@ -136,198 +145,187 @@ fn held_too_long(held: usize, n: usize) -> bool
 }
 
 // T or more steps done, in an opening that has not ended.
-fn out_of_steps(ended: bool, total: usize, done: usize) -> bool
-    ensures { result ≡ (not ended && leb total done) }
+fn out_of_steps(opening: OpeningCbc) -> bool
+    ensures { result ≡ (not opening.ended && leb opening.total opening.done) }
 {
-    if ended {
-        return false;
-    }
-    total <= done
+    !opening.ended && opening.total <= opening.done
 }
 
 // The opening breaks its ranges, or does not belong to this record and output: answer 7.
+#[tactic(auto, unfolding(crate::specs::Step::broken), using(crate::proofs::Sound::allowed_least, crate::proofs::Sound::allowed_most))]
 fn is_broken(opening: OpeningCbc, record_len: usize, room: usize) -> bool
     ensures { result ≡ broken opening record_len room }
 {
-    let n = opening.n;
-    let total = opening.total;
-    let done = opening.done;
-    let held = opening.held;
-    let ended = opening.ended;
-    if !sizes::allowed(n) {
-        return true;
-    }
-    if total != sizes::total_steps(n) {
-        return true;
-    }
-    if out_of_steps(ended, total, done) {
-        return true;
-    }
-    if held_too_long(held, n) {
-        return true;
-    }
-    if record_len != n + IV_LEN {
-        return true;
-    }
-    room < n
+    !sizes::allowed(opening.n)
+        || opening.total != sizes::total_steps(opening.n)
+        || out_of_steps(opening)
+        || held_too_long(opening.held, opening.n)
+        || record_len != opening.n + IV_LEN
+        || room < opening.n
 }
 
-// A refused step: the opening as given.
-fn refusal(opening: OpeningCbc, answer: u8) -> Stepped
-    ensures { result ≡ report opening answer 0 0 }
-{
-    Stepped {
-        opening,
-        answer,
-        length: 0,
-        count: 0,
-    }
+// The work of a step. The type is public since the definitions of specs/ speak of it, and so theorems of other crates do.
+#[derive(Clone, Copy)]
+pub enum Work {
+    // body block k, from 0
+    Decipher(usize),
+    ReadPadding,
+    // block j, from 0, of header and text
+    Inner(usize),
+    OuterPad,
+    OuterHash,
+    Answering,
 }
 
-// The report of a step before the last, which changes these fields and the number of steps done.
-fn moved(opening: OpeningCbc, words: [u32; 8], kept: [u32; 8], held: usize, pad_ok: bool) -> Stepped
-    requires { opening.done < opening.total }
-    ensures { result ≡ report (changed opening words kept held pad_ok) 0 0 (opening.done + 1) }
-{
-    let count = opening.done + 1;
-    let mut next = opening;
-    next.words = words;
-    next.kept = kept;
-    next.held = held;
-    next.pad_ok = pad_ok;
-    next.done = count;
-    Stepped {
-        opening: next,
-        answer: DONE,
-        length: 0,
-        count,
+impl Work {
+    // The work for a body of n bytes with this number of steps done: m blocks, the padding, B blocks, and the last three. The
+    // bounds follow from n, so that no pattern has them.
+    #[tactic(auto, unfolding(crate::specs::Work::work_at, sizes::specs::Sizes::mac_steps))]
+    fn at(n: usize, done: usize) -> Work
+        ensures { result ≡ work_at n done }
+    {
+        let m = n / 16;
+        let hashed = m + 1 + sizes::mac_steps(n);
+        if done < m {
+            Work::Decipher(done)
+        } else if done == m {
+            Work::ReadPadding
+        } else if done < hashed {
+            Work::Inner(done - (m + 1))
+        } else if done == hashed {
+            Work::OuterPad
+        } else if done == hashed + 1 {
+            Work::OuterHash
+        } else {
+            Work::Answering
+        }
     }
 }
 
-// Step k of 1..m: block k of the body, deciphered into the output. The key is expanded again, since the opening carries no
-// round keys.
-fn decipher_step(opening: OpeningCbc, record: &[u8], out: &mut [u8]) -> Stepped
-    requires { (opening.done < opening.total) × (opening.done < opening.n / 16) × (length «record».now ≡ opening.n + iv_len) × (opening.n ≤ length out.old) }
-    ensures state { result ≡ report_by (decipher opening.done) opening out.old }
-    ensures output { out.new ≡ output_by (decipher opening.done) opening «record».now out.old }
-{
-    let enc_key = opening.enc_key;
-    let k = opening.done;
-    cbc::decipher_block_cbc(Sm4Cipher::new(enc_key), record, k, out);
-    let words = opening.words;
-    let kept = opening.kept;
-    moved(opening, words, kept, opening.held, opening.pad_ok)
+// An opening that is not broken and has not ended, so that a step is left: what each piece of work may count on. Record and output
+// are lent beside it: inside, a clause would name what was written by its place, `self.exit.1.1.0.now`.
+#[derive(Clone, Copy)]
+struct Live {
+    opening: OpeningCbc,
+    ghost unfinished: { opening.done < opening.total },
+    ghost least: { 33 ≤ opening.n },
+    ghost most: { opening.n ≤ 16432 },
+    ghost text: { opening.held ≤ opening.n - 33 },
 }
 
-// Step m + 1: the padding read, and the first block of the inner hash.
-fn padding_step(opening: OpeningCbc, out: &[u8]) -> Stepped
-    requires { (opening.done < opening.total) × (opening.n ≤ length out.now) }
-    ensures { result ≡ report_by read_padding opening out.now }
-{
-    let n = opening.n;
-    let p = padding::check_tls_padding_ct(&out[..n]);
-    let mac_key = opening.mac_key;
-    let kept = opening.kept;
-    let words = mac_blocks::inner_key(mac_key);
-    moved(opening, words, kept, p.held, p.pad_ok == 1)
-}
+#[tactic(auto, unfolding(crate::specs::Step::report_by, crate::specs::Step::opening_by, crate::specs::Step::output_by, crate::specs::Step::changed))]
+impl Live {
+    // The report of a step before the last: next, with one step more done.
+    fn moved(self, next: OpeningCbc) -> Stepped
+        requires { next.done ≡ self.opening.done }
+        ensures { result ≡ report (changed next next.words next.kept next.held next.pad_ok) 0 0 (self.opening.done + 1) }
+    {
+        let done = self.opening.done + 1;
+        Stepped {
+            opening: OpeningCbc { done, ..next },
+            answer: DONE,
+            length: 0,
+            count: done,
+        }
+    }
 
-// The next B steps: a block of header and text each. The part of the output that is lent is as long as the longest text.
-fn inner_step(opening: OpeningCbc, out: &[u8]) -> Stepped
-    requires { (opening.done < opening.total) × (opening.n / 16 < opening.done) × (opening.n ≤ length out.now) × (33 ≤ opening.n) × (opening.n ≤ 16432) × (opening.held ≤ opening.n - 33) }
-    ensures { result ≡ report_by (inner (opening.done - (opening.n / 16 + 1))) opening out.now }
-{
-    let n = opening.n;
-    let held = opening.held;
-    let version = opening.version;
-    let header = record::record_header(opening.seq, opening.content_type, version, held as u16);
-    let words = opening.words;
-    let kept = opening.kept;
-    let b = opening.done - (n / 16 + 1);
-    let so_far = MacWords { words, kept };
-    let after = mac_blocks::inner_block(so_far, header, &out[..n - (MAC_LEN + 1)], held, b);
-    let next_words = after.words;
-    let next_kept = after.kept;
-    moved(opening, next_words, next_kept, held, opening.pad_ok)
-}
+    // Block k of the body, deciphered into the output. The key is expanded again, since the opening carries no round keys.
+    fn decipher(self, k: usize, record: &[u8], out: &mut [u8]) -> Stepped
+        requires { (k < self.opening.n / 16) × (length «record».now ≡ self.opening.n + iv_len) × (self.opening.n ≤ length out.old) }
+        ensures state { result ≡ report_by (Work.Decipher k) self.opening out.old }
+        ensures output { out.new ≡ output_by (Work.Decipher k) self.opening «record».now out.old }
+    {
+        cbc::decipher_block_cbc(Sm4Cipher::new(self.opening.enc_key), record, k, out);
+        self.moved(self.opening)
+    }
 
-// The first block of the outer hash.
-fn outer_pad_step(opening: OpeningCbc) -> Stepped
-    requires { opening.done < opening.total }
-    ensures { result ≡ report_by outer_pad opening [] }
-{
-    let mac_key = opening.mac_key;
-    let kept = opening.kept;
-    let words = mac_blocks::outer_key(mac_key);
-    moved(opening, words, kept, opening.held, opening.pad_ok)
-}
+    // The padding read, and the first block of the inner hash.
+    fn read_padding(self, out: &[u8]) -> Stepped
+        requires { self.opening.n ≤ length out.now }
+        ensures { result ≡ report_by Work.ReadPadding self.opening out.now }
+    {
+        let p = padding::check_tls_padding_ct(&out[..self.opening.n]);
+        self.moved(OpeningCbc {
+            words: mac_blocks::inner_key(self.opening.mac_key),
+            held: p.held,
+            pad_ok: p.pad_ok == 1,
+            ..self.opening
+        })
+    }
 
-// The second, the kept digest with its ending.
-fn outer_hash_step(opening: OpeningCbc) -> Stepped
-    requires { opening.done < opening.total }
-    ensures { result ≡ report_by outer_hash opening [] }
-{
-    let words = opening.words;
-    let kept = opening.kept;
-    let next = mac_blocks::outer_digest(words, kept);
-    moved(opening, next, kept, opening.held, opening.pad_ok)
-}
+    // Block j of header and text. The part of the output that is lent is as long as the longest text.
+    fn inner(self, j: usize, out: &[u8]) -> Stepped
+        requires { self.opening.n ≤ length out.now }
+        ensures { result ≡ report_by (Work.Inner j) self.opening out.now }
+    {
+        let s = self.opening;
+        let header = record::record_header(s.seq, s.content_type, s.version, s.held as u16);
+        let text = &out[..s.n - (MAC_LEN + 1)];
+        let OpeningCbc { words, kept, .. } = s;
+        let so_far = MacWords { words, kept };
+        let MacWords { words, kept } = mac_blocks::inner_block(so_far, header, text, s.held, j);
+        self.moved(OpeningCbc { words, kept, ..s })
+    }
 
-// The last step: one verdict by masks, all bytes of the body written, whatever it is.
-fn last_step(opening: OpeningCbc, out: &mut [u8]) -> Stepped
-    requires { (opening.n ≤ length out.old) × (33 ≤ opening.n) × (opening.held ≤ opening.n - 33) }
-    ensures state { result ≡ report_by answering opening out.old }
-    ensures output { out.new ≡ output_by answering opening [] out.old }
-{
-    let n = opening.n;
-    let total = opening.total;
-    let held = opening.held;
-    let received = verdict::extract_mac_ct(&out[..n], held);
-    let words = opening.words;
-    let computed = sm3::digest_of(words);
-    let v = verdict::verdict_ct(opening.pad_ok, received, computed, held);
-    let length = v.length;
-    let answer = v.answer;
-    verdict::clear_from_ct(&mut out[..n], length);
-    let opening = ended_with(n, total, true, answer);
-    Stepped {
-        opening,
-        answer,
-        length,
-        count: total,
+    // The first block of the outer hash.
+    fn outer_pad(self) -> Stepped
+        ensures { result ≡ report_by Work.OuterPad self.opening [] }
+    {
+        self.moved(OpeningCbc {
+            words: mac_blocks::outer_key(self.opening.mac_key),
+            ..self.opening
+        })
     }
-}
 
-// The work of the step that follows from the sizes and the number of steps done.
-fn work_step(opening: OpeningCbc, record: &[u8], out: &mut [u8]) -> Stepped
-    requires { (broken opening (length «record».now) (length out.old) ≡ false) × (opening.ended ≡ false) }
-    ensures state { result ≡ report_by (work_at opening.n opening.done) opening out.old }
-    ensures output { out.new ≡ output_by (work_at opening.n opening.done) opening «record».now out.old }
-{
-    let n = opening.n;
-    let done = opening.done;
-    let m = n / 16;
-    let hashed = m + 1 + sizes::mac_steps(n);
-    if done < m {
-        return decipher_step(opening, record, out);
+    // The second, the kept digest with its ending.
+    fn outer_hash(self) -> Stepped
+        ensures { result ≡ report_by Work.OuterHash self.opening [] }
+    {
+        self.moved(OpeningCbc {
+            words: mac_blocks::outer_digest(self.opening.words, self.opening.kept),
+            ..self.opening
+        })
     }
-    if done == m {
-        return padding_step(opening, out);
+
+    // The last step: one verdict by masks, all bytes of the body written, whatever it is.
+    fn answering(self, out: &mut [u8]) -> Stepped
+        requires { self.opening.n ≤ length out.old }
+        ensures state { result ≡ report_by Work.Answering self.opening out.old }
+        ensures output { out.new ≡ output_by Work.Answering self.opening [] out.old }
+    {
+        let s = self.opening;
+        let received = verdict::extract_mac_ct(&out[..s.n], s.held);
+        let v = verdict::verdict_ct(s.pad_ok, received, sm3::digest_of(s.words), s.held);
+        verdict::clear_from_ct(&mut out[..s.n], v.length);
+        Stepped {
+            opening: ended_with(s.n, s.total, true, v.answer),
+            answer: v.answer,
+            length: v.length,
+            count: s.total,
+        }
     }
-    if done < hashed {
-        return inner_step(opening, out);
+
+    // The work that follows from the sizes and the number of steps done.
+    #[tactic(auto, unfolding(crate::specs::Step::report_by, crate::specs::Step::opening_by, crate::specs::Step::output_by), using(crate::proofs::Sound::decipher_below))]
+    fn work(self, record: &[u8], out: &mut [u8]) -> Stepped
+        requires { (length «record».now ≡ self.opening.n + iv_len) × (self.opening.n ≤ length out.old) }
+        ensures state { result ≡ report_by (work_at self.opening.n self.opening.done) self.opening out.old }
+        ensures output { out.new ≡ output_by (work_at self.opening.n self.opening.done) self.opening «record».now out.old }
+    {
+        match Work::at(self.opening.n, self.opening.done) {
+            Work::Decipher(k) => self.decipher(k, record, out),
+            Work::ReadPadding => self.read_padding(out),
+            Work::Inner(j) => self.inner(j, out),
+            Work::OuterPad => self.outer_pad(),
+            Work::OuterHash => self.outer_hash(),
+            Work::Answering => self.answering(out),
+        }
     }
-    if done == hashed {
-        return outer_pad_step(opening);
-    }
-    if done == hashed + 1 {
-        return outer_hash_step(opening);
-    }
-    last_step(opening, out)
 }
 
 // One step. Answer 7, then answer 8, leave opening and output as they are; record and output are read only where the step's
 // work says so.
+#[tactic(auto, unfolding(crate::specs::Step::stepped, crate::specs::Step::output_after), using(crate::proofs::Sound::sound, crate::proofs::Sound::one_more))]
 pub fn step_cbc(opening: OpeningCbc, record: &[u8], out: &mut [u8]) -> Stepped
     ensures { Step opening «record».now out.old result out.new }
 {
@@ -337,5 +335,5 @@ pub fn step_cbc(opening: OpeningCbc, record: &[u8], out: &mut [u8]) -> Stepped
     if opening.ended {
         return refusal(opening, ENDED);
     }
-    work_step(opening, record, out)
+    Live { opening }.work(record, out)
 }

@@ -10,7 +10,8 @@ use record::RecordKeysCbc;
 
 // plaintext sealed into record, and the sealed part of it opened into out: the text, zeros up to the body's length n, the rest
 // of out as found; bytes of record behind what was sealed stay as found. A refusal of sealing is reported with length 0 and
-// count 0, and leaves both buffers as found; less room in out than n is answer 2 and leaves out as found.
+// count 0, and leaves both buffers as found; less room in out than n is answer 2 and leaves out as found. Keys, number, type and
+// version stay apart, as in the two functions that are called, and the report is that of the second.
 pub fn seal_and_open(
     keys: RecordKeysCbc,
     seq: u64,

@@ -1,7 +1,0 @@
--- `steps::outer_hash_step` meets its contract: the callee's words in the opening moved on. Assumes nothing.
-use Rattle.steps.specs.Step.{opening_by, report_by}
-use Rattle.steps.proofs.outer_hash_step.Goals as goal
-
-pub returns : goal.returns
-unfolding report_by opening_by
-returns c = rw (c.moved.ensures, c.outer_digest-next.ensures)
