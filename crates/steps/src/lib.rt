@@ -74,9 +74,8 @@ fn ended_with(n: usize, total: usize, ended: bool, answer: u8) -> OpeningCbc
 fn start_answer(record_len: usize, room: usize) -> u8
     ensures { result ≡ start_answer record_len room }
 {
-    let size = sizes::size_answer(record_len);
-    if size != DONE {
-        return size;
+    if let Err(why) = sizes::size_answer(record_len) {
+        return why.number();
     }
     if room < record_len - IV_LEN {
         return NO_ROOM;
