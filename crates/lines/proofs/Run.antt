@@ -5,7 +5,7 @@ use Prim.Native.Nat.{ℕ, ◌+◌, ◌*◌, ◌≤◌}
 use native.Mathlib.Omega.{arith}
 use borrow.Author.Tests.{le-ltb}
 use lib.ListN.{length, take}
-use Rattle.std.specs.Prelude.{Result}
+use Rattle.std.specs.Prelude.{Result, Err}
 use Rattle.answers.specs.declared.Refusal.{Refusal}
 use Rattle.words.proofs.Lists.{length-put}
 use Rattle.words.proofs.Puts.{part-put}
@@ -38,6 +38,14 @@ chunk_wrote {line} {chunk} {out} {report} {out'} h p =
     let long = length-put 0 (chunk_text line chunk) out in
     (rw r, rw (r, o, long) (omega arith), rw (r, o) (part-put 0 (chunk_text line chunk) out fits))
 
+-- which is not refused
+pub chunk_room : {line : Line} {chunk out out' : List ℕ} {why : Refusal}
+    → most_text * length chunk ≤ length out → ChunkTold line chunk out (Err why) out' → ⊥
+unfolding chunk_report
+chunk_room {chunk = chunk} {out} h p =
+    let r = rw (le-ltb (length out) (most_text * length chunk) h) at p.result in
+    cc
+
 -- the end of the input, with room
 pub last-wrote : {line : Line} {out : List ℕ} {report : Result Told Refusal} {out' : List ℕ} → most_text ≤ length out
     → LastTold line out report out'
@@ -50,6 +58,14 @@ last-wrote {line} {out} {report} {out'} h p =
     let short = begun-short line (is_begun line) in
     let fits : 0 + length (last_text line) ≤ length out = rw (last-text line) (omega (arith, short)) in
     (rw r, rw (r, o, length-put 0 (last_text line) out) (omega arith), rw (r, o) (part-put 0 (last_text line) out fits))
+
+-- which is not refused
+pub last-room : {line : Line} {out out' : List ℕ} {why : Refusal} → most_text ≤ length out
+    → LastTold line out (Err why) out' → ⊥
+unfolding last_report
+last-room {out = out} h p =
+    let r = rw (le-ltb (length out) most_text h) at p.result in
+    cc
 
 -- a run writes the text of all that is said
 run-printed : {line : Line} {chunks : List (List ℕ)} {bytes : List ℕ} → Run line chunks bytes
