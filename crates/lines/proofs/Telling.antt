@@ -1,16 +1,15 @@
 -- What is written of a chunk, step by step, and at the end of the input. Assumes nothing.
 use mathlib.Core.Bool.{Bool, true, false, cond}
 use mathlib.Core.List.{List, [], ◌∷◌, ◌++◌, map}
-use mathlib.Core.Path.{◌≡◌, refl, sym, ap, subst, ◌∙◌}
-use Prim.Native.Nat.{ℕ, ◌+◌, ◌-◌, ◌*◌, ◌≤◌, ◌<◌}
+use mathlib.Core.Path.{◌≡◌, refl, sym, ap, ◌∙◌}
+use Prim.Native.Nat.{ℕ, ◌+◌, ◌*◌, ◌≤◌, ◌<◌}
 use native.Mathlib.Nat.{add-zero}
 use native.Mathlib.Omega.{arith}
 use borrow.Author.Tests.{lt-ltb, le-ltb}
-use lib.ListN.{length, take, drop, length-append, length-drop, take-append-drop}
-use lib.Seq.{drop-drop}
+use lib.ListN.{length, drop, length-append, take-append-drop}
 use Rattle.std.specs.Prelude.{Ok}
 use Rattle.words.specs.Lists.{put}
-use Rattle.words.proofs.Lists.{part_to_end, length-put, put-fits}
+use Rattle.words.proofs.Lists.{length-put, put-fits}
 use Rattle.words.proofs.Puts.{put-put}
 use Rattle.lines.specs.Judgement.{max_line_len, judged_line}
 use Rattle.lines.specs.Promise.{JudgedPut, ChunkTold, LastTold}
@@ -45,85 +44,75 @@ put_nothing at o h = put-fits at [] o (omega arith) ∙ rw (add-zero at) (take-a
 
 -- ---- a loop of steps
 
--- before a turn: the line begun, the index in the chunk, the bytes written and the output leave the rest to write
-pub record Telling (line : Line) (chunk out : List ℕ) (o : List ℕ) (current : Line) (at n : ℕ) : Type 0 where
-  pub within : at ≤ length chunk
+-- before a turn: the line begun, what is left of the chunk, the bytes written and the output leave the rest to write
+pub record Telling (line : Line) (chunk out : List ℕ) (o : List ℕ) (current : Line) (rest : List ℕ) (n : ℕ) : Type 0 where
   pub counted : current.count ≤ MOST
-  pub same : begun current (drop at chunk) ≡ begun line chunk
-  pub bytes : n + length (chunk_text current (drop at chunk)) ≡ length (chunk_text line chunk)
-  pub laid : put n (chunk_text current (drop at chunk)) o ≡ put 0 (chunk_text line chunk) out
+  pub same : begun current rest ≡ begun line chunk
+  pub bytes : n + length (chunk_text current rest) ≡ length (chunk_text line chunk)
+  pub laid : put n (chunk_text current rest) o ≡ put 0 (chunk_text line chunk) out
   pub long : length o ≡ length out
   pub room : most_text * length chunk ≤ length out
 
 -- at the start all is left
 pub telling-none : {line : Line} {chunk out : List ℕ} → line.count ≤ MOST → most_text * length chunk ≤ length out
-    → Telling line chunk out out line 0 0
+    → Telling line chunk out out line chunk 0
 telling-none h r =
-    record { within = omega arith; counted = h; same = refl; bytes = omega arith; laid = refl; long = refl; room = r }
+    record { counted = h; same = refl; bytes = omega arith; laid = refl; long = refl; room = r }
 
 -- a fresh line is counted no further than a usize goes
 fresh-counted : fresh.count ≤ MOST
 unfolding fresh
 fresh-counted = omega arith
 
-module _ {line : Line} {chunk out o : List ℕ} {current : Line} {at n : ℕ} (p : Telling line chunk out o current at n) where
+module _ {line : Line} {chunk out o : List ℕ} {current : Line} {rest : List ℕ} {n : ℕ}
+    (p : Telling line chunk out o current rest n) where
   -- a step that ends a line, and the text that is written of it
-  module _ {k : Line} {used : ℕ} (e : Step.Ended k used ≡ advanced current (take (length chunk - at) (drop at chunk)))
+  module _ {k : Line} {used : ℕ} (e : Step.Ended k used ≡ advanced current rest)
       {j : Judged} {m : ℕ} {o₁ : List ℕ} (f : j ≡ judged_line max_line_len k) (q : JudgedPut j o n m o₁) where
-    -- the same step, of what is left
-    ended_step : Step.Ended k used ≡ advanced current (drop at chunk)
-    ended_step = e ∙ ap (advanced current) (part_to_end at chunk)
-
     -- the text stands in front of what is left to write
-    text_split : chunk_text current (drop at chunk) ≡ text_of j ++ chunk_text fresh (drop (at + used) chunk)
-    text_split =
-        rw (f, ← drop-drop used at chunk) (step-text current (drop at chunk) p.counted ∙ rw (← ended_step))
+    text_split : chunk_text current rest ≡ text_of j ++ chunk_text fresh (drop used rest)
+    text_split = rw f (step-text current rest p.counted ∙ rw (← e))
 
-    -- so it has room, and the step stays inside the chunk
-    pub turn-bounds : (n + m ≤ length o) × (0 < used) × (at + used ≤ length chunk)
+    -- so it has room, and the step stays inside what is left
+    pub turn-bounds : (n + m ≤ length o) × (0 < used) × (used ≤ length rest)
     turn-bounds =
-        let rest = chunk_text fresh (drop (at + used) chunk) in
-        let both = length-append (text_of j) rest in
-        let moved = advance_moves current (drop at chunk) ended_step in (
+        let both = length-append (text_of j) (chunk_text fresh (drop used rest)) in
+        let moved = advance_moves current rest e in (
           omega (arith, ap length text_split, both, q.result, p.bytes, p.long, p.room, chunk_short line chunk),
           moved.0,
-          omega (arith, moved.1, length-drop at chunk, p.within),
+          moved.1,
         )
 
     -- one turn
-    pub telling-more : {next : Line} → next ≡ fresh → Telling line chunk out o₁ next (at + used) (n + m)
-    telling-more {next} g =
-        let rest = chunk_text fresh (drop (at + used) chunk) in
-        let both = length-append (text_of j) rest in
-        let bounds = turn-bounds in
-        let same : begun current (drop at chunk) ≡ begun fresh (drop (at + used) chunk) =
-        rw (← drop-drop used at chunk) (begun_advance current p.counted (drop at chunk) ∙ rw (← ended_step)) in
-        subst (λ (k : Line). Telling line chunk out o₁ k (at + used) (n + m)) (sym g)
-        record {
-          within = bounds.2;
+    pub telling-more : {next : Line} {behind : List ℕ} → next ≡ fresh → behind ≡ drop used rest
+        → Telling line chunk out o₁ next behind (n + m)
+    telling-more {next} {behind} g h =
+        let left = chunk_text fresh (drop used rest) in
+        let both = length-append (text_of j) left in
+        let same : begun current rest ≡ begun fresh (drop used rest) =
+        begun_advance current p.counted rest ∙ rw (← e) in
+        rw (g, h)
+        (record {
           counted = fresh-counted;
           same = sym same ∙ p.same;
           bytes = omega (arith, ap length text_split, both, q.result, p.bytes);
           laid =
-              ap (put (n + m) rest) q.output
-              ∙ put-put n (n + m) (text_of j) rest o (omega (arith, q.result))
+              ap (put (n + m) left) q.output
+              ∙ put-put n (n + m) (text_of j) left o (omega (arith, q.result))
               (omega (arith, ap length text_split, both, q.result, p.bytes, p.long, p.room, chunk_short line chunk))
               ∙ ap (λ (x : List ℕ). put n x o) (sym text_split)
               ∙ p.laid;
           long = ap length q.output ∙ length-put n (text_of j) o ∙ p.long;
           room = p.room;
-        }
+        })
 
   -- a step that ends none: all is written
-  pub chunk_told : {k : Line} → Step.Begun k ≡ advanced current (take (length chunk - at) (drop at chunk))
+  pub chunk_told : {k : Line} → Step.Begun k ≡ advanced current rest
       → ChunkTold line chunk out (Ok (record { line = k; length = n })) o
   unfolding chunk_report chunk_output begun finished printed
   chunk_told {k} e =
-      let last : Step.Begun k ≡ advanced current (drop at chunk) = e ∙ ap (advanced current) (part_to_end at chunk) in
-      let none : chunk_text current (drop at chunk) ≡ [] =
-      step-text current (drop at chunk) p.counted ∙ rw (← last) in
-      let left : k ≡ begun line chunk =
-      sym (begun_advance current p.counted (drop at chunk) ∙ rw (← last)) ∙ p.same in
+      let none : chunk_text current rest ≡ [] = step-text current rest p.counted ∙ rw (← e) in
+      let left : k ≡ begun line chunk = sym (begun_advance current p.counted rest ∙ rw (← e)) ∙ p.same in
       let bytes : n ≡ length (chunk_text line chunk) = omega (arith, ap length none, p.bytes) in
       let fits : n ≤ length o = omega (arith, bytes, p.long, p.room, chunk_short line chunk) in
       let laid : o ≡ put 0 (chunk_text line chunk) out = sym (put_nothing n o fits) ∙ (rw none at p.laid) in

@@ -225,14 +225,14 @@ pub fn tell(line: Line, chunk: &[u8], out: &mut [u8]) -> Result<Told, Refusal>
         return Err(Refusal::NoRoom);
     }
     let mut current = line;
-    let mut at = 0;
+    let mut rest = chunk;
     let mut length = 0;
     loop {
-        match advance(current, &chunk[at..]) {
+        match advance(current, rest) {
             Step::Ended { line: whole, used } => {
                 length += put_judged(judge_line(whole), out, length);
                 current = start_line();
-                at += used;
+                rest = &rest[used..];
             }
             Step::Begun(line) => return Ok(Told { line, length }),
         }
