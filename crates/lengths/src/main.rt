@@ -3,24 +3,19 @@
 // The buffers stay as they are, however long a line or the input is.
 #![tactic(auto)]
 
-ghost use Rattle.std.specs.Prelude.{true, false, ◌≡◌, ◌≤◌, length, IfOk};
+ghost use Rattle.std.specs.Prelude.{◌≡◌, ◌≤◌, length, IfOk, IfSome};
+ghost use Rattle.std.specs.ControlFlow.{ForBreak};
 ghost use Rattle.lines.specs.Reading.{fresh, begun};
 
 use lines::{Line, MOST_TEXT};
 use std::io;
 use std::io::Read as _;
+use std::ops::ControlFlow;
 
 // The most bytes of one read, and room for all that can be told of them.
 const CHUNK: usize = 4096;
 
 const ROOM: usize = MOST_TEXT * CHUNK;
-
-// Whether the input goes on, and the line that is begun.
-#[derive(Clone, Copy)]
-struct Read {
-    more: bool,
-    line: Line,
-}
 
 // Prints the lines that end in a chunk, and returns the one that it leaves begun.
 fn pass(rt: &impl Print, line: Line, chunk: &[u8]) -> io::Result<Line>
@@ -28,9 +23,10 @@ fn pass(rt: &impl Print, line: Line, chunk: &[u8]) -> io::Result<Line>
     ensures { IfOk result (λ left. left ≡ begun line chunk.now) }
 {
     let mut out = [0u8; ROOM];
-    let told = lines::tell(line, chunk, &mut out);
-    let n = told.length;
-    rt.write_all(&out[..n])?;
+    let Ok(told) = lines::tell(line, chunk, &mut out) else {
+        unreachable!();
+    };
+    rt.write_all(&out[..told.length])?;
     Ok(told.line)
 }
 
@@ -39,58 +35,52 @@ fn finish(rt: &impl Print, line: Line) -> io::Result<Line>
     ensures { IfOk result (λ left. left ≡ fresh) }
 {
     let mut out = [0u8; MOST_TEXT];
-    let told = lines::tell_last(line, &mut out);
-    let n = told.length;
-    rt.write_all(&out[..n])?;
+    let Ok(told) = lines::tell_last(line, &mut out) else {
+        unreachable!();
+    };
+    rt.write_all(&out[..told.length])?;
     Ok(told.line)
 }
 
 // Reads once. A read that fails ends the input, as one that finds nothing does, and the line begun stays.
-fn read_some(rt: &(impl Input + Print), line: Line) -> io::Result<Read>
-    ensures { IfOk result (λ read. read.more ≡ false → read.line ≡ line) }
+fn read_some(rt: &(impl Input + Print), line: Line) -> io::Result<ControlFlow<Line, Line>>
+    ensures { IfOk result (λ read. ForBreak read (λ left. left ≡ line)) }
 {
-    let mut buffer = [0u8; 4096];
+    let mut buffer = [0u8; CHUNK];
     let n = rt.reader().read(&mut buffer).unwrap_or(0);
     if n == 0 {
-        return Ok(Read { more: false, line });
+        return Ok(ControlFlow::Break(line));
     }
-    Ok(Read {
-        more: true,
-        line: pass(rt, line, &buffer[..n])?,
-    })
+    Ok(ControlFlow::Continue(pass(rt, line, &buffer[..n])?))
 }
 
-// The line that is begun where the reading ends, after how many reads, and whether the input still goes on.
+// The line that is begun where the reading ends, and after how many reads that is, if the input still goes on.
 #[derive(Clone, Copy)]
 struct Ended {
     line: Line,
-    reads: u64,
-    more: bool,
+    going_on: Option<u64>,
 }
 
 // Reads to the end of the input. A proved loop has to end, and nothing says that an input does: so it counts its reads, up to
 // a number that no run uses up, and stops before the end of the input only there.
 fn read_all(rt: &(impl Input + Print)) -> io::Result<Ended>
-    ensures { IfOk result (λ ended. ended.more ≡ true → ended.reads ≡ 18446744073709551615) }
+    ensures { IfOk result (λ ended. IfSome ended.going_on (λ reads. reads ≡ 18446744073709551615)) }
 {
     let mut line = lines::start_line();
-    let mut reads: u64 = 0;
-    while reads < u64::MAX {
-        let read = read_some(rt, line)?;
-        line = read.line;
-        reads += 1;
-        if !read.more {
-            return Ok(Ended {
+    let mut reads = 0;
+    for i in 0..u64::MAX {
+        match read_some(rt, line)? {
+            ControlFlow::Continue(longer) => line = longer,
+            ControlFlow::Break(line) => return Ok(Ended {
                 line,
-                reads,
-                more: false,
-            });
+                going_on: None,
+            }),
         }
+        reads = i + 1;
     }
     Ok(Ended {
         line,
-        reads,
-        more: true,
+        going_on: Some(reads),
     })
 }
 

@@ -28,3 +28,6 @@ front-short (b ∷ l) = by (eqb b NEWLINE) (front-short l)
     by : (t : Bool) → length (front l) ≤ length l → length (cond t [] (b ∷ front l)) ≤ length (b ∷ l)
     by true h = omega arith
     by false h = omega arith
+
+-- what the proofs of steps cite
+pub ruleset advancing = (take-front, front-short)

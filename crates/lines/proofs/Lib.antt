@@ -1,6 +1,6 @@
 mod Scans
 mod Front
-mod Writing
+mod Sizes
 pub mod Parts
 pub mod Steps
 pub mod Chunks

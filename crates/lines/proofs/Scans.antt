@@ -1,43 +1,44 @@
--- What the loops over bytes find at an index. Assumes nothing.
-use mathlib.Core.Bool.{true, false}
-use mathlib.Core.List.{List}
-use mathlib.Core.Path.{◌≡◌}
-use Prim.Native.Nat.{ℕ, ◌+◌, ◌≤◌, ◌<◌}
-use native.Mathlib.Numerals.{add-one}
-use borrow.Author.Tests.{eq-eqb, ne_eqb}
-use lib.ListN.{length, get_or, drop, drop_of_length-le}
-use lib.Seq.{drop-cons}
+-- What is found over all bytes, by the library's words. Assumes nothing.
+use mathlib.Core.Bool.{Bool, true, false, cond, ◌&&◌, not}
+use mathlib.Core.List.{List, [], ◌∷◌}
+use mathlib.Core.Path.{◌≡◌, refl, sym, ap}
+use Prim.Native.Nat.{ℕ, ◌+◌, ◌≤◌}
+use native.Mathlib.Omega.{arith}
+use borrow.Author.Tests.{ltb-false}
+use lib.Dec.{eqb, ltb}
+use lib.ListN.{length}
+use Rattle.std.specs.List.{list_all, position, position_or_len}
+use Rattle.std.specs.Option.{unwrap_or}
+use Rattle.std.specs.Prelude.{Some, None}
 use Rattle.lines.specs.Hexadecimal.{is_hex, all_hex}
 use Rattle.lines.specs.Input.{NEWLINE, front}
+use Rattle.lines.proofs.Front.{front-short}
 
-module _ (l : List ℕ) (i : ℕ) where
-  -- another byte than a digit
-  pub digit_missing : i < length l → is_hex (get_or l i 0) ≡ false → all_hex (drop i l) ≡ false
-  unfolding all_hex
-  digit_missing h e = rw (drop-cons l i 0 h, e)
+-- each byte is a digit
+pub all_hex_list : (l : List ℕ) → all_hex l ≡ list_all is_hex l
+unfolding all_hex
+all_hex_list [] = refl
+all_hex_list (b ∷ l) = ap (λ (t : Bool). is_hex b && t) (all_hex_list l)
 
-  -- a digit: it is for the rest to say
-  pub digit_here : i < length l → is_hex (get_or l i 0) ≡ true → all_hex (drop i l) ≡ all_hex (drop (i + 1) l)
-  unfolding all_hex
-  digit_here h e = rw (add-one i, drop-cons l i 0 h, e)
+-- as many bytes stand before the first newline as its index says
+pub front_position : (l : List ℕ) → length (front l) ≡ position_or_len (λ b. eqb b NEWLINE) l
+unfolding front
+front_position [] = refl
+front_position (b ∷ l) = by (eqb b NEWLINE) (front_position l)
+  where
+    by : (t : Bool) → length (front l) ≡ position_or_len (λ b. eqb b NEWLINE) l
+        → length (cond t [] (b ∷ front l)) ≡ cond (not t) (1 + position_or_len (λ b. eqb b NEWLINE) l) 0
+    by true e = refl
+    by false e = omega (arith, e)
 
-  -- the end: none was missing
-  pub digits_all : length l ≤ i → all_hex (drop i l) ≡ true
-  unfolding all_hex
-  digits_all h = rw (drop_of_length-le l {i = i} h)
-
-  -- a newline: nothing stands before it
-  pub newline_here : i < length l → get_or l i 0 ≡ NEWLINE → length (front (drop i l)) ≡ 0
-  unfolding front
-  newline_here h e = rw (drop-cons l i 0 h, eq-eqb (get_or l i 0) NEWLINE e)
-
-  -- another byte: one more stands before the newline
-  pub newline_later : i < length l → (get_or l i 0 ≡ NEWLINE → ⊥)
-      → length (front (drop i l)) ≡ length (front (drop (i + 1) l)) + 1
-  unfolding front
-  newline_later h e = rw (add-one i, drop-cons l i 0 h, ne_eqb (get_or l i 0) NEWLINE e, add-one)
-
-  -- the end: there is no newline, and nothing more
-  pub newline_none : length l ≤ i → length (front (drop i l)) ≡ 0
-  unfolding front
-  newline_none h = rw (drop_of_length-le l {i = i} h)
+-- the index that is found, or the length
+pub front_index : (l : List ℕ) → unwrap_or (position (λ b. eqb b NEWLINE) l) (length l) ≡ length (front l)
+front_index l = by (ltb (position_or_len (λ b. eqb b NEWLINE) l) (length l)) refl
+  where
+    by : (t : Bool) → ltb (position_or_len (λ b. eqb b NEWLINE) l) (length l) ≡ t
+        → unwrap_or (cond t (Some (position_or_len (λ b. eqb b NEWLINE) l)) None) (length l) ≡ length (front l)
+    by true e = sym (front_position l)
+    by false e =
+        let n : length l ≤ length (front l) =
+        rw (front_position l) (ltb-false (position_or_len (λ b. eqb b NEWLINE) l) (length l) e) in
+        omega (arith, front-short l)

@@ -1,20 +1,18 @@
 -- Steps over the input find its lines, however it is cut into parts. Assumes nothing.
 use mathlib.Core.Bool.{Bool, true, false, cond}
 use mathlib.Core.List.{List, [], ◌∷◌, ◌++◌, append_assoc, append-nil}
-use mathlib.Core.Path.{◌≡◌, refl, sym, ap, subst, ◌∙◌}
-use Prim.Native.Nat.{ℕ, suc, ◌+◌, ◌-◌, ◌≤◌, ◌<◌}
+use mathlib.Core.Path.{◌≡◌, refl, sym, ap, ◌∙◌}
+use Prim.Native.Nat.{ℕ, suc, ◌+◌, ◌≤◌, ◌<◌}
 use native.Mathlib.Nat.{suc-add}
 use native.Mathlib.Omega.{arith}
 use borrow.Author.Tests.{lt-ltb, ltb-true, ltb-false}
 use lib.Dec.{eqb, ltb, leb-suc-suc}
-use lib.ListN.{length, take, drop, length-drop}
-use lib.Seq.{drop-drop}
-use Rattle.words.proofs.Lists.{part_to_end}
+use lib.ListN.{length, drop, drop_of_length-le}
 use Rattle.lines.specs.Input.{NEWLINE, front}
 use Rattle.lines.specs.Reading.{MOST, fresh, taken, advanced, finished, begun}
+use Rattle.lines.specs.Telling.{next_line}
 use Rattle.lines.specs.declared.Line.{Line}
 use Rattle.lines.specs.declared.Step.{Step}
-use Rattle.lines.proofs.Front.{front-short}
 use Rattle.lines.proofs.Parts.{taken-append, taken_nothing}
 
 -- ---- one step
@@ -93,63 +91,65 @@ module _ {X : Type 0} (f : Line → List ℕ → X) (g : Line → X → X)
       by true e ih = rw append-nil (past_here (taken line a) b l e)
       by false e ih = rw (taken-append, ih, append_assoc) (past_later (taken line (a ++ (b ∷ front l))) b l e)
 
-module _ (line : Line) where
-  -- after a step on something, the line to go on with and the rest leave begun what all of it leaves
-  pub begun_advance : (l : List ℕ) → 0 < length l
-      → begun line l ≡ begun (cond (advanced line l).ended fresh (advanced line l).line) (drop (advanced line l).used l)
+-- ---- what a step leaves
+
+-- what is found of a step: by e where it ended a line, of that line and what is done with; by b of the line that is begun
+abbrev pub by_step : {X : Type 0} → (Line → ℕ → X) → (Line → X) → Step → X
+by_step e b (Step.Ended line used) = e line used
+by_step e b (Step.Begun line) = b line
+
+-- what it leaves of the input
+abbrev pub left_of : Step → List ℕ → List ℕ
+left_of (Step.Ended line used) l = drop used l
+left_of (Step.Begun line) l = []
+
+-- of a line that is counted no further than a usize goes
+module _ (line : Line) (counted : line.count ≤ MOST) where
+  -- after a step, the line to go on with and the rest leave begun what all of it leaves
+  pub begun_advance : (l : List ℕ)
+      → begun line l ≡ begun (next_line (advanced line l)) (left_of (advanced line l) l)
   unfolding begun advanced past ends rest
-  begun_advance [] h = absurd (omega arith)
-  begun_advance (b ∷ l) h =
-      rw (← taken-append line [] (b ∷ []))
-      (onward begun (λ _ k. k) (λ _ _ _. refl) line [] (b ∷ l) ∙ by (ends (b ∷ l)) (taken line (front (b ∷ l))) (rest (b ∷ l)))
+  begun_advance l =
+      ap (λ (k : Line). begun k l) (sym (taken_nothing line counted))
+      ∙ onward begun (λ _ k. k) (λ _ _ _. refl) line [] l
+      ∙ by (ltb (length (front l)) (length l)) refl
     where
-      by : (t : Bool) (k : Line) (r : List ℕ) → cond t (begun fresh r) (begun k r) ≡ begun (cond t fresh k) r
-      by true k r = refl
-      by false k r = refl
+      by : (t : Bool) → ltb (length (front l)) (length l) ≡ t
+          → cond t (begun fresh (drop (cond t (length (front l) + 1) (length (front l))) l))
+          (begun (taken line (front l)) (drop (cond t (length (front l) + 1) (length (front l))) l))
+          ≡ begun
+          (next_line (cond t (Step.Ended (taken line (front l)) (length (front l) + 1)) (Step.Begun (taken line (front l)))))
+          (left_of (cond t (Step.Ended (taken line (front l)) (length (front l) + 1)) (Step.Begun (taken line (front l)))) l)
+      by true e = refl
+      by false e = rw (drop_of_length-le l {i = length (front l)} (ltb-false (length (front l)) (length l) e))
 
-  -- the line that a step ends is the first of those that end in the input
-  pub finished_advance : (l : List ℕ) → line.count ≤ MOST
-      → finished line l
-      ≡ cond (advanced line l).ended ((advanced line l).line ∷ finished fresh (drop (advanced line l).used l))
-      (finished (advanced line l).line (drop (advanced line l).used l))
+  -- the line that a step ends is the first of those that end in the input; where it ends none, none does
+  pub finished_advance : (l : List ℕ)
+      → finished line l ≡ by_step (λ k used. k ∷ finished fresh (drop used l)) (λ k. []) (advanced line l)
   unfolding finished advanced past ends rest
-  finished_advance l h =
-      ap (λ (k : Line). finished k l) (sym (taken_nothing line h)) ∙ onward finished (λ k ls. k ∷ ls) (λ _ _ _. refl) line [] l
-
-  -- a step on something moves on
-  advance_moves : (l : List ℕ) → 0 < length l → 0 < (advanced line l).used
-  unfolding advanced
-  advance_moves l h = by (ltb (length (front l)) (length l)) refl
+  finished_advance l =
+      ap (λ (k : Line). finished k l) (sym (taken_nothing line counted))
+      ∙ onward finished (λ k ls. k ∷ ls) (λ _ _ _. refl) line [] l
+      ∙ by (ltb (length (front l)) (length l)) refl
     where
-      by : (t : Bool) → ltb (length (front l)) (length l) ≡ t → 0 < cond t (length (front l) + 1) (length (front l))
-      by true e = omega arith
-      by false e = omega (arith, ltb-false (length (front l)) (length l) e)
+      by : (t : Bool) → ltb (length (front l)) (length l) ≡ t
+          → cond t (taken line (front l) ∷ finished fresh (drop (cond t (length (front l) + 1) (length (front l))) l))
+          (finished (taken line (front l)) (drop (cond t (length (front l) + 1) (length (front l))) l))
+          ≡ by_step (λ k used. k ∷ finished fresh (drop used l)) (λ k. [])
+          (cond t (Step.Ended (taken line (front l)) (length (front l) + 1)) (Step.Begun (taken line (front l))))
+      by true e = refl
+      by false e = rw (drop_of_length-le l {i = length (front l)} (ltb-false (length (front l)) (length l) e))
 
-  -- and stays inside
-  advance_inside : (l : List ℕ) → (advanced line l).used ≤ length l
-  unfolding advanced
-  advance_inside l = by (ltb (length (front l)) (length l)) refl
-    where
-      by : (t : Bool) → ltb (length (front l)) (length l) ≡ t → cond t (length (front l) + 1) (length (front l)) ≤ length l
-      by true e = omega (arith, ltb-true (length (front l)) (length l) e)
-      by false e = front-short l
-
--- ---- a loop of steps
-
--- what a step from index at on leaves to the turns behind it
-pub record Turn (line : Line) (input : List ℕ) (at : ℕ) (s : Step) : Type 0 where
-  pub moves : 0 < s.used
-  pub inside : at + s.used ≤ length input
-  pub same : begun (cond s.ended fresh s.line) (drop (at + s.used) input) ≡ begun line (drop at input)
-
--- one turn
-pub advance_turn : (line : Line) (input : List ℕ) (at : ℕ) (s : Step) → at < length input
-    → s ≡ advanced line (take (length input - at) (drop at input)) → Turn line input at s
-advance_turn line input at s h e =
-    let left : 0 < length (drop at input) = simp length-drop (omega arith) in
-    subst (Turn line input at) (sym (e ∙ ap (advanced line) (part_to_end at input)))
-    record {
-      moves = advance_moves line (drop at input) left;
-      inside = omega (arith, advance_inside line (drop at input), length-drop at input);
-      same = rw (← drop-drop (advanced line (drop at input)).used at input) (sym (begun_advance line (drop at input) left));
-    }
+-- a step that ends a line moves on, and stays inside
+pub advance_moves : (line : Line) (l : List ℕ) {k : Line} {used : ℕ} → Step.Ended k used ≡ advanced line l
+    → (0 < used) × (used ≤ length l)
+unfolding advanced
+advance_moves line l {k} {used} e = by (ltb (length (front l)) (length l)) refl e
+  where
+    by : (t : Bool) → ltb (length (front l)) (length l) ≡ t
+        → Step.Ended k used ≡ cond t (Step.Ended (taken line (front l)) (length (front l) + 1)) (Step.Begun (taken line (front l)))
+        → (0 < used) × (used ≤ length l)
+    by true h d =
+        let u : used ≡ length (front l) + 1 = cc in
+        (omega arith, omega (arith, ltb-true (length (front l)) (length l) h))
+    by false h d = cc

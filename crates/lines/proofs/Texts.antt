@@ -4,14 +4,17 @@ use mathlib.Core.List.{List, [], ◌∷◌, ◌++◌, map, append-nil, append_as
 use mathlib.Core.Path.{◌≡◌, refl, sym, ap, ◌∙◌}
 use Prim.Native.Nat.{ℕ, suc, ◌+◌, ◌-◌, ◌*◌, ◌/◌, ◌%◌, ◌^◌, ◌≤◌, ◌<◌}
 use native.Mathlib.Omega.{arith}
-use borrow.Author.Tests.{eq-eqb, ne_eqb, ltb-false}
+use borrow.Author.Tests.{ltb-false}
 use lib.Dec.{eqb, ltb}
 use lib.ListN.{length, length-append}
-use Rattle.answers.specs.Answers.{Done, Short, Ragged, TooBig}
+use Rattle.std.specs.Prelude.{Result, Ok, Err}
+use Rattle.answers.specs.Answers.{Done, Short, Ragged, TooBig, number_of}
+use Rattle.answers.specs.declared.Refusal.{Refusal}
 use Rattle.record.specs.Limits.{iv_len}
 use Rattle.sizes.specs.Sizes.{min_record, max_body, size_answer, mac_steps, total_steps}
 use Rattle.lines.specs.Input.{NEWLINE}
-use Rattle.lines.specs.Judgement.{max_line_len, Sized, Long, Bad, unsized, sized, judgement, judged_line}
+use Rattle.lines.specs.Judgement.{max_line_len, Sized, Long, kind_of, record_len_of, answer_of, total_or_0, total_of}
+use Rattle.lines.specs.Judgement.{size_refusal, steps_of, sized, judgement, judged_line}
 use Rattle.lines.specs.Reading.{fresh, taken, finished, at_end, is_begun}
 use Rattle.lines.specs.Telling.{most_text, chunk_text, last_text}
 use Rattle.lines.specs.Text.{decimal, long, bad, numeral, numbers, text_of, printed}
@@ -21,20 +24,35 @@ use Rattle.lines.proofs.Decimal.{decimal-short}
 
 -- ---- by the kind
 
--- three numbers
-pub text-sized : (j : Judged) → j.kind ≡ Sized → text_of j ≡ numbers j.record_len j.answer j.total
+-- the text of a judgement by its number and its values
+pub text_of-values : (j : Judged) → text_of j
+    ≡ cond (eqb (kind_of j) Sized) (numbers (record_len_of j) (answer_of j) (total_of j)) (cond (eqb (kind_of j) Long) long bad)
 unfolding text_of
-text-sized j e = rw (eq-eqb j.kind Sized e)
+text_of-values (Judged.Sized r total) = refl
+text_of-values Judged.Long = refl
+text_of-values Judged.Bad = refl
 
--- `long`
-pub text-long : (j : Judged) → (j.kind ≡ Sized → ⊥) → j.kind ≡ Long → text_of j ≡ long
-unfolding text_of
-text-long j h e = rw (ne_eqb j.kind Sized h, eq-eqb j.kind Long e)
+-- the size answer by its three tests
+abbrev size_by : Bool → Bool → Bool → ℕ
+size_by s t u = cond s Short (cond t (cond u TooBig Done) Ragged)
 
--- `bad` for any other
-pub text-bad : (j : Judged) → (j.kind ≡ Sized → ⊥) → (j.kind ≡ Long → ⊥) → text_of j ≡ bad
-unfolding text_of
-text-bad j h k = rw (ne_eqb j.kind Sized h, ne_eqb j.kind Long k)
+-- and what is said by the answer
+abbrev steps_by : ℕ → ℕ → Result ℕ Refusal
+steps_by r n = cond (eqb n Done) (Ok (total_steps (r - iv_len))) (Err (size_refusal n))
+
+-- of a record of r bytes the answer is the size answer, and the total is T, or 0 where the size is refused
+pub sized-values : (r : ℕ)
+    → (answer_of (sized r) ≡ size_answer r) × (total_of (sized r) ≡ cond (eqb (size_answer r) Done) (total_steps (r - iv_len)) 0)
+unfolding sized steps_of size_answer
+sized-values r = by (ltb r min_record) (eqb ((r - iv_len) % 16) 0) (ltb max_body (r - iv_len))
+  where
+    by : (s t u : Bool)
+        → (number_of (steps_by r (size_by s t u)) ≡ size_by s t u)
+        × (total_or_0 (steps_by r (size_by s t u)) ≡ cond (eqb (size_by s t u) Done) (total_steps (r - iv_len)) 0)
+    by true t u = (refl, refl)
+    by false true true = (refl, refl)
+    by false true false = (refl, refl)
+    by false false u = (refl, refl)
 
 -- ---- lengths
 
@@ -54,34 +72,25 @@ pub numbers-short : (a b c : ℕ) → a < 10 ^ 20 → b < 10 ^ 3 → c < 10 ^ 20
 numbers-short a b c h i j =
     omega (arith, length-numbers a b c, decimal-short 19 a h, decimal-short 2 b i, decimal-short 19 c j)
 
--- a text has room, whatever its kind
-pub text-short : (j : Judged) → j.record_len < 10 ^ 20 → j.answer < 10 ^ 3 → j.total < 10 ^ 20
-    → length (text_of j) ≤ most_text
-unfolding text_of
-text-short j a b c =
-    by (eqb j.kind Sized) (eqb j.kind Long) (numbers-short j.record_len j.answer j.total a b c)
-  where
-    by : (s t : Bool) → length (numbers j.record_len j.answer j.total) ≤ most_text
-        → length (cond s (numbers j.record_len j.answer j.total) (cond t long bad)) ≤ most_text
-    by true t h = h
-    by false true h = omega arith
-    by false false h = omega arith
-
--- an answer is one digit
-answer_small : (r : ℕ) → size_answer r < 10 ^ 3
-unfolding size_answer
-answer_small r = by (ltb r min_record) (eqb ((r - iv_len) % 16) 0) (ltb max_body (r - iv_len))
-  where
-    by : (s t u : Bool) → cond s Short (cond t (cond u TooBig Done) Ragged) < 10 ^ 3
-    by true t u = omega arith
-    by false true true = omega arith
-    by false true false = omega arith
-    by false false u = omega arith
+-- the answer of a result is one digit
+pub number_short : (t : Result ℕ Refusal) → number_of t < 10 ^ 3
+number_short (Ok n) = omega arith
+number_short (Err Refusal.TooLong) = omega arith
+number_short (Err Refusal.NoRoom) = omega arith
+number_short (Err Refusal.Short) = omega arith
+number_short (Err Refusal.Ragged) = omega arith
+number_short (Err Refusal.TooBig) = omega arith
+number_short (Err Refusal.BadRecord) = omega arith
+number_short (Err Refusal.BadState) = omega arith
+number_short (Err Refusal.Ended) = omega arith
+number_short (Err Refusal.WrongSize) = omega arith
 
 -- a record that comes from a line is short enough to have few steps
 sized-short : (r : ℕ) → r ≤ max_line_len → length (text_of (sized r)) ≤ most_text
-unfolding sized total_steps mac_steps
-sized-short r h = text-short (sized r) (omega arith) (answer_small r) (by (eqb (size_answer r) Done))
+unfolding sized text_of total_steps mac_steps
+sized-short r h =
+    numbers-short r (number_of (steps_of r)) (total_or_0 (steps_of r)) (omega arith) (number_short (steps_of r))
+    (rw (sized-values r).1 (by (eqb (size_answer r) Done)))
   where
     by : (t : Bool) → cond t (total_steps (r - iv_len)) 0 < 10 ^ 20
     by true = omega arith
@@ -93,7 +102,7 @@ unfolding judgement text_of
 line_short line = by (ltb max_line_len line.count) refl (eqb (line.count % 2) 0) line.hex
   where
     by : (s : Bool) → ltb max_line_len line.count ≡ s → (t u : Bool)
-        → length (text_of (cond s (unsized Long) (cond t (cond u (sized (line.count / 2)) (unsized Bad)) (unsized Bad))))
+        → length (text_of (cond s Judged.Long (cond t (cond u (sized (line.count / 2)) Judged.Bad) Judged.Bad)))
         ≤ most_text
     by true e t u = omega arith
     by false e true true = sized-short (line.count / 2) (omega (arith, ltb-false max_line_len line.count e))

@@ -1,6 +1,7 @@
 -- What is said of a line. Assumes nothing.
-use Rattle.std.specs.Prelude.{Bool, cond, List, ℕ, ◌-◌, ◌/◌, ◌%◌, eqb, ltb, length}
-use Rattle.answers.specs.Answers.{Done}
+use Rattle.std.specs.Prelude.{Bool, cond, List, ℕ, ◌-◌, ◌/◌, ◌%◌, Result, Ok, Err, eqb, ltb, length}
+use Rattle.answers.specs.Answers.{Done, Short, Ragged, number_of}
+use Rattle.answers.specs.declared.Refusal.{Refusal}
 use Rattle.record.specs.Limits.{iv_len}
 use Rattle.sizes.specs.Sizes.{size_answer, total_steps}
 use Rattle.lines.specs.Hexadecimal.{all_hex}
@@ -21,25 +22,52 @@ Long = 1
 abbrev pub Bad : ℕ
 Bad = 2
 
--- no size is given
-abbrev pub unsized : ℕ → Judged
-unsized kind = record { kind = kind; record_len = 0; answer = Done; total = 0 }
+-- the number of what is said
+abbrev pub kind_of : Judged → ℕ
+kind_of (Judged.Sized r total) = Sized
+kind_of Judged.Long = Long
+kind_of Judged.Bad = Bad
 
--- the length of a record of r bytes, its size answer, and T, or 0 if it is refused
+-- and its values: the record's length, 0 where no size is given
+abbrev pub record_len_of : Judged → ℕ
+record_len_of (Judged.Sized r total) = r
+record_len_of Judged.Long = 0
+record_len_of Judged.Bad = 0
+
+-- its size answer, 0 where no size is given
+abbrev pub answer_of : Judged → ℕ
+answer_of (Judged.Sized r total) = number_of total
+answer_of Judged.Long = Done
+answer_of Judged.Bad = Done
+
+-- T, 0 where the size is refused
+abbrev pub total_or_0 : Result ℕ Refusal → ℕ
+total_or_0 (Ok total) = total
+total_or_0 (Err why) = 0
+
+-- T, 0 where the size is refused or none is given
+abbrev pub total_of : Judged → ℕ
+total_of (Judged.Sized r total) = total_or_0 total
+total_of Judged.Long = 0
+total_of Judged.Bad = 0
+
+-- the refusal with the number of a size answer
+abbrev pub size_refusal : ℕ → Refusal
+size_refusal n = cond (eqb n Short) Refusal.Short (cond (eqb n Ragged) Refusal.Ragged Refusal.TooBig)
+
+-- T of a record of r bytes, or why its size is refused
+unfoldable pub steps_of : ℕ → Result ℕ Refusal
+steps_of r = cond (eqb (size_answer r) Done) (Ok (total_steps (r - iv_len))) (Err (size_refusal (size_answer r)))
+
+-- the length of a record of r bytes, and T, or why its size is refused
 unfoldable pub sized : ℕ → Judged
-sized r =
-    record {
-      kind = Sized;
-      record_len = r;
-      answer = size_answer r;
-      total = cond (eqb (size_answer r) Done) (total_steps (r - iv_len)) 0;
-    }
+sized r = Judged.Sized r (steps_of r)
 
 -- by the number of characters and whether each is a digit: `long` first, two digits to a byte else
 unfoldable pub judgement : ℕ → ℕ → Bool → Judged
 judgement limit count hex =
-    cond (ltb limit count) (unsized Long)
-    (cond (eqb (count % 2) 0) (cond hex (sized (count / 2)) (unsized Bad)) (unsized Bad))
+    cond (ltb limit count) Judged.Long
+    (cond (eqb (count % 2) 0) (cond hex (sized (count / 2)) Judged.Bad) Judged.Bad)
 
 -- of a whole line
 unfoldable pub judged : ℕ → List ℕ → Judged

@@ -23,8 +23,8 @@ taken line part = record { count = min (line.count + length part) MOST; hex = li
 unfoldable pub advanced : Line → List ℕ → Step
 advanced line input =
     let end = length (front input) in
-    let ended = ltb end (length input) in
-    record { line = taken line (front input); used = cond ended (end + 1) end; ended = ended }
+    let longer = taken line (front input) in
+    cond (ltb end (length input)) (Step.Ended longer (end + 1)) (Step.Begun longer)
 
 -- the lines that end in a part of the input, the first one begun before it
 unfoldable pub finished : Line → List ℕ → List Line

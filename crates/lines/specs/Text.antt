@@ -1,8 +1,8 @@
 -- The text that is printed of a judgement, byte by byte. Assumes nothing.
-use Rattle.std.specs.Prelude.{cond, List, [], ◌∷◌, ◌++◌, ◌≡◌, ℕ, zero, suc, ◌+◌, ◌/◌, ◌%◌, eqb, ltb, length}
-use Rattle.words.specs.Lists.{put}
+use Rattle.std.specs.Prelude.{cond, List, [], ◌∷◌, ◌++◌, ℕ, zero, suc, ◌+◌, ◌/◌, ◌%◌, ltb}
+use Rattle.answers.specs.Answers.{number_of}
 use Rattle.lines.specs.Input.{NEWLINE}
-use Rattle.lines.specs.Judgement.{Sized, Long}
+use Rattle.lines.specs.Judgement.{total_or_0}
 use Rattle.lines.specs.declared.Judged.{Judged}
 
 abbrev pub SPACE : ℕ
@@ -37,17 +37,13 @@ numeral n mark = decimal n ++ (mark ∷ [])
 unfoldable pub numbers : ℕ → ℕ → ℕ → List ℕ
 numbers a b c = numeral a SPACE ++ (numeral b SPACE ++ numeral c NEWLINE)
 
--- of one judgement, by its kind
+-- of one judgement: the record's length, its size answer and T, or a word
 unfoldable pub text_of : Judged → List ℕ
-text_of j =
-    cond (eqb j.kind Sized) (numbers j.record_len j.answer j.total) (cond (eqb j.kind Long) long bad)
+text_of (Judged.Sized r total) = numbers r (number_of total) (total_or_0 total)
+text_of Judged.Long = long
+text_of Judged.Bad = bad
 
 -- of judgements, one behind the other
 unfoldable pub printed : List Judged → List ℕ
 printed [] = []
 printed (j ∷ js) = text_of j ++ printed js
-
--- a text laid over out from index at on, and the index behind it
-pub record PutAt (text out : List ℕ) (at end : ℕ) (out' : List ℕ) : Type 0 where
-  pub behind : end ≡ at + length text
-  pub laid : out' ≡ put at text out

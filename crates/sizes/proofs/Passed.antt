@@ -5,8 +5,21 @@ use Prim.Native.Nat.{ℕ, ◌+◌, ◌-◌, ◌%◌, ◌≤◌, ◌<◌}
 use native.Mathlib.Omega.{arith}
 use borrow.Author.Tests.{ltb-false, eqb-true, leb-true, le-leb, eq-eqb}
 use lib.Dec.{eqb, leb, ltb}
-use Rattle.answers.specs.Answers.{Done, Short, Ragged, TooBig}
+use Rattle.answers.specs.Answers.{Done, Short, Ragged, TooBig, number}
+use Rattle.answers.specs.declared.Refusal.{Refusal}
 use Rattle.sizes.specs.Sizes.{size_answer, allowed, mac_steps, total_steps}
+
+-- a refusal's number is not that of done
+pub number_refuses : (why : Refusal) → number why ≡ Done → ⊥
+number_refuses Refusal.TooLong e = absurd (omega arith)
+number_refuses Refusal.NoRoom e = absurd (omega arith)
+number_refuses Refusal.Short e = absurd (omega arith)
+number_refuses Refusal.Ragged e = absurd (omega arith)
+number_refuses Refusal.TooBig e = absurd (omega arith)
+number_refuses Refusal.BadRecord e = absurd (omega arith)
+number_refuses Refusal.BadState e = absurd (omega arith)
+number_refuses Refusal.Ended e = absurd (omega arith)
+number_refuses Refusal.WrongSize e = absurd (omega arith)
 
 -- a body's length that is allowed: 48 to 16,432, in whole blocks
 pub record Allowed (n : ℕ) : Type 0 where

@@ -3,9 +3,11 @@
 #![tactic(auto)]
 
 ghost use Rattle.std.specs.Prelude.{◌≡◌};
+ghost use Rattle.answers.specs.Answers.{number_of};
 ghost use Rattle.sizes.specs.Sizes.{size_answer, allowed as allowedBody, mac_steps, total_steps};
 
-use answers::{DONE, RAGGED, SHORT, TOO_BIG};
+use answers::Refusal;
+use record::IV_LEN;
 
 // The IV, a MAC and one block of padding.
 pub const MIN_RECORD: usize = 64;
@@ -13,47 +15,42 @@ pub const MIN_RECORD: usize = 64;
 // The longest text that is sealed, its MAC and one block of padding.
 pub const MAX_BODY: usize = 16432;
 
-// Answer 3, 4 or 5, tested in this order, where no record of this length is opened; else 0.
-pub fn size_answer(record_len: usize) -> u8
-    ensures { result ≡ size_answer record_len }
+// Refused with 3, 4 or 5, tested in this order, where no record of this length is opened.
+#[tactic(auto, unfolding(crate::specs::Sizes::size_answer))]
+pub fn size_answer(record_len: usize) -> Result<(), Refusal>
+    ensures { number_of result ≡ size_answer record_len }
 {
     if record_len < MIN_RECORD {
-        return SHORT;
+        return Err(Refusal::Short);
     }
-    let n = record_len - 16;
+    let n = record_len - IV_LEN;
     if n % 16 != 0 {
-        return RAGGED;
+        return Err(Refusal::Ragged);
     }
     if MAX_BODY < n {
-        return TOO_BIG;
+        return Err(Refusal::TooBig);
     }
-    DONE
+    Ok(())
 }
 
 // Whether a body of n bytes is opened at all.
+#[tactic(auto, unfolding(crate::specs::Sizes::allowed))]
 pub fn allowed(n: usize) -> bool
     ensures { result ≡ allowedBody n }
 {
-    if n < MIN_RECORD - 16 {
-        return false;
-    }
-    if MAX_BODY < n {
-        return false;
-    }
-    n % 16 == 0
+    (MIN_RECORD - IV_LEN..=MAX_BODY).contains(&n) && n % 16 == 0
 }
 
 // The steps that compress header and text, for a body of n bytes: enough for the longest text that it can hold.
+#[tactic(auto, unfolding(crate::specs::Sizes::mac_steps))]
 pub fn mac_steps(n: usize) -> usize
     ensures { result ≡ mac_steps n }
 {
-    if n < 11 {
-        return 0;
-    }
-    words::div_ceil(n - 11, 64)
+    n.saturating_sub(11).div_ceil(64)
 }
 
 // All steps of opening a body of n bytes.
+#[tactic(auto, unfolding(crate::specs::Sizes::total_steps, crate::specs::Sizes::mac_steps))]
 pub fn total_steps(n: usize) -> usize
     ensures { result ≡ total_steps n }
 {

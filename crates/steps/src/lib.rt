@@ -83,17 +83,17 @@ fn refusal(opening: OpeningCbc, answer: u8) -> Stepped
     }
 }
 
-// The size answer, then 2 where the output is shorter than the body: a number, as `size_answer` gives one.
-#[tactic(auto, unfolding(crate::specs::State::start_answer), using(crate::proofs::Sound::has_iv))]
+// The size answer, then 2 where the output is shorter than the body: a number, as the reports have it.
 fn start_answer(record_len: usize, room: usize) -> u8
     ensures { result ≡ start_answer record_len room }
 {
-    let size = sizes::size_answer(record_len);
-    if size == DONE && room < record_len - IV_LEN {
-        NO_ROOM
-    } else {
-        size
+    if let Err(why) = sizes::size_answer(record_len) {
+        return why.number();
     }
+    if room < record_len - IV_LEN {
+        return NO_ROOM;
+    }
+    DONE
 }
 
 // An opening of a record of record_len bytes into an output of room bytes; no byte of either is read. A refusal (3, 4, 5, then

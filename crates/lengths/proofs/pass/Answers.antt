@@ -1,20 +1,23 @@
 -- `lengths::pass` meets its contract: the output has room for every chunk, so the line that `tell` leaves begun goes on.
 -- Assumes nothing.
 use Rattle.std.proofs.Common.{sym, arith, length-take-le}
-use Rattle.lines.proofs.Run.{chunk_wrote}
+use Rattle.lines.proofs.Run.{chunk_wrote, chunk_room}
 use Rattle.lengths.proofs.pass.Goals as goal
+
+pub unreachable-requires : goal.unreachable-requires
+unreachable-requires g c = chunk_room (omega arith) c.in_default.ensures
 
 pub slice_bounds-out-end : goal.slice_bounds-out-end
 slice_bounds-out-end g c =
-    let w = chunk_wrote (omega arith) c.tell-told.ensures in
+    let w = chunk_wrote (omega arith) c.in-Ok.ensures in
     w.1
 
 pub slice_bounds-write_all-end : goal.slice_bounds-write_all-end
 slice_bounds-write_all-end g c =
-    let w = chunk_wrote (omega arith) c.tell-told.ensures in
+    let w = chunk_wrote (omega arith) c.in-Ok.ensures in
     sym (length-take-le _ _ w.1)
 
 pub returns : goal.returns
 returns g c =
-    let w = chunk_wrote (omega arith) c.tell-told.ensures in
+    let w = chunk_wrote (omega arith) c.in-Ok.ensures in
     w.0

@@ -1,36 +1,39 @@
 -- `lines::tell` meets its contract. The loop's invariant: what is written and what the rest of the chunk has to say are
 -- the text of the whole chunk; the measure is what is left of the chunk. Assumes nothing.
-use native.Mathlib.Omega.{arith}
-use Rattle.lines.proofs.Steps.{advance_turn}
-use Rattle.lines.proofs.Telling.{telling-none, telling-more, step_room, chunk_refused, chunk_told}
+use Rattle.std.proofs.Common.{ap, arith, length, length-drop}
+use Rattle.words.proofs.Lists.{part_to_end}
+use Rattle.lines.proofs.Telling.{telling-more, turn-bounds, chunk_refused, chunk_told}
 use Rattle.lines.proofs.tell.Goals as goal
 
 pub returns-then-out-chunk : goal.returns-then-out-chunk
 returns-then-out-chunk c = chunk_refused _ _ _ (omega arith)
 
-pub loop-at-init : goal.loop-at-init
-loop-at-init c = telling-none (omega arith) (omega arith)
+pub overflow_add-length : goal.overflow_add-length
+overflow_add-length c =
+    let turn = turn-bounds c.loop-whole.invariant c.in-Ended.ensures c.judge_line.ensures c.put_judged-length.ensures in
+    omega (arith, turn.0)
 
-pub put_ended-length-requires : goal.put_ended-length-requires
-put_ended-length-requires c =
-    step_room c.loop-at.invariant c.advance-step.result
-    c.loop-at-test.true c.advance-step.ensures
+pub slice_bounds-rest-count : goal.slice_bounds-rest-count
+slice_bounds-rest-count c =
+    let turn = turn-bounds c.loop-whole.invariant c.in-Ended.ensures c.judge_line.ensures c.put_judged-length.ensures in
+    turn.2
 
-pub overflow_add-at : goal.overflow_add-at
-overflow_add-at c =
-    let turn = advance_turn _ _ _ _ c.loop-at-test.true c.advance-step.ensures in
-    omega (arith, turn.inside)
+pub slice_bounds-rest-start : goal.slice_bounds-rest-start
+slice_bounds-rest-start c =
+    let turn = turn-bounds c.loop-whole.invariant c.in-Ended.ensures c.judge_line.ensures c.put_judged-length.ensures in
+    omega (arith, turn.2)
 
-pub loop-at-smaller : goal.loop-at-smaller
-loop-at-smaller c =
-    let turn = advance_turn _ _ _ _ c.loop-at-test.true c.advance-step.ensures in
-    omega (arith, turn.moves, turn.inside)
+pub loop-whole-smaller : goal.loop-whole-smaller
+loop-whole-smaller c =
+    let turn = turn-bounds c.loop-whole.invariant c.in-Ended.ensures c.judge_line.ensures c.put_judged-length.ensures in
+    let rest = c.loop-whole.rest.now in
+    let used = c.in-Ended.used in
+    omega (arith, ap length (part_to_end used rest), length-drop used rest, turn.1, turn.2)
 
-pub loop-at-preserved : goal.loop-at-preserved
-loop-at-preserved c =
-    telling-more c.loop-at.invariant c.advance-step.result
-    c.loop-at-test.true c.advance-step.ensures
-    c.put_ended-length.ensures c.next_line-current.ensures
+pub loop-whole-preserved : goal.loop-whole-preserved
+loop-whole-preserved c =
+    telling-more c.loop-whole.invariant c.in-Ended.ensures c.judge_line.ensures c.put_judged-length.ensures c.start_line-current.ensures
+    (part_to_end c.in-Ended.used c.loop-whole.rest.now)
 
-pub returns : goal.returns
-returns c = chunk_told c.loop-at.invariant (omega arith)
+pub returns-in-Begun : goal.returns-in-Begun
+returns-in-Begun c = chunk_told c.loop-whole.invariant c.in-Begun.ensures
