@@ -1,5 +1,5 @@
-mod Scans
-mod Fields
+mod Agree
+mod Parts
 mod Numbers
-mod Fitting
+mod Bytes
 pub mod OneOutcome

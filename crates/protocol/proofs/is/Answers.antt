@@ -1,33 +1,31 @@
--- `protocol::is` meets its contract: its tests are those of the definition, in the same order. Assumes nothing.
-use mathlib.Core.Path.{sym, ap, ◌∙◌}
-use borrow.Author.Tests.{eq-eqb, ne_eqb}
-use Rattle.protocol.specs.declared.Parsed.{Parsed}
+-- `protocol::is` meets its contract: its tests are those of the definition. Assumes nothing.
+use Rattle.std.proofs.Common.{◌≡◌, true, false, [], ◌∷◌, sym, ap, ◌∙◌}
+use Rattle.std.specs.Prelude.{is_some}
+use Rattle.words.specs.Lists.{agree}
 use Rattle.protocol.specs.Kinds.{is_kind}
+use Rattle.protocol.proofs.Agree.{is-agree}
 use Rattle.protocol.proofs.is.Goals as goal
 
-pub returns-then-same : goal.returns-then-same
+pub returns-then-eq : goal.returns-then-eq
 unfolding is_kind
-returns-then-same c = rw (eq-eqb _ 255 c.if-kind-eq-SIDE.true, sym c.same.ensures ∙ c.if-same.true)
+returns-then-eq c =
+    let client : agree c.args.f.now (0x63 ∷ []) ≡ true = sym (is-agree _ _ _ c.eq.ensures c.as_slice.ensures) ∙ c.if-eq.true in
+    rw (c.in-Side.is, client) c.if-eq.true
 
-pub returns-then-kind-eq-SIDE : goal.returns-then-kind-eq-SIDE
+pub returns-else-eq : goal.returns-else-eq
 unfolding is_kind
-returns-then-kind-eq-SIDE c =
-    rw (eq-eqb _ 255 c.if-kind-eq-SIDE.true, sym c.same.ensures ∙ c.if-same.false) c.same-then-kind-eq-SIDE.ensures
+returns-else-eq c =
+    let other : agree c.args.f.now (0x63 ∷ []) ≡ false = sym (is-agree _ _ _ c.eq.ensures c.as_slice.ensures) ∙ c.if-eq.false in
+    rw (c.in-Side.is, other) (is-agree _ _ _ c.eq-else-eq.ensures c.as_slice-else-eq.ensures)
 
-pub returns-then-kind-eq-NUMBER : goal.returns-then-kind-eq-NUMBER
+pub returns-in-Number : goal.returns-in-Number
 unfolding is_kind
-returns-then-kind-eq-NUMBER c =
-    rw (ne_eqb _ 255 c.if-kind-eq-SIDE.false, eq-eqb _ 254 c.if-kind-eq-NUMBER.true)
-    (ap (λ (p : Parsed). p.good) c.number-n.ensures)
+returns-in-Number c = rw c.in-Number.is (c.is_some.ensures ∙ ap is_some c.number.ensures)
 
-pub returns-then-kind-eq-BYTES : goal.returns-then-kind-eq-BYTES
+pub returns-in-Bytes : goal.returns-in-Bytes
 unfolding is_kind
-returns-then-kind-eq-BYTES c =
-    let other = ne_eqb _ 255 c.if-kind-eq-SIDE.false in
-    rw (c.size-n.ensures, other, ne_eqb _ 254 c.if-kind-eq-NUMBER.false, eq-eqb _ 253 c.if-kind-eq-BYTES.true)
+returns-in-Bytes c = rw c.in-Bytes.is (c.is_some-in-Bytes.ensures ∙ ap is_some c.size.ensures)
 
-pub returns : goal.returns
+pub returns-in-Sized : goal.returns-in-Sized
 unfolding is_kind
-returns c =
-    let other = ne_eqb _ 255 c.if-kind-eq-SIDE.false in
-    rw (c.size-n.ensures, other, ne_eqb _ 254 c.if-kind-eq-NUMBER.false, ne_eqb _ 253 c.if-kind-eq-BYTES.false)
+returns-in-Sized c = rw (c.in-Sized.is, ← c.size-in-Sized.ensures) c.eq-in-Sized.ensures
