@@ -12,5 +12,5 @@ pointwise-agree (x ∷ a) [] = refl
 pointwise-agree (x ∷ a) (y ∷ b) = ap (λ (t : Bool). eqb x y && t) (pointwise-agree a b)
 
 -- what `==` says of a slice and a word
-pub is-agree : (f w v : List ℕ) {r : Bool} → r ≡ pointwise eqb f v → v ≡ w → r ≡ agree f w
-is-agree f w v e h = e ∙ pointwise-agree f v ∙ ap (agree f) h
+pub is_agree : (f w v : List ℕ) {r : Bool} → r ≡ pointwise eqb f v → v ≡ w → r ≡ agree f w
+is_agree f w v e h = e ∙ pointwise-agree f v ∙ ap (agree f) h

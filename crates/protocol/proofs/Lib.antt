@@ -1,5 +1,5 @@
-mod Agree
-mod Parts
-mod Numbers
-mod Bytes
+pub mod Agree
+pub mod Parts
+pub mod Numbers
+pub mod Bytes
 pub mod OneOutcome

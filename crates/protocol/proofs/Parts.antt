@@ -37,10 +37,10 @@ parts-first (x ∷ l) = by (eqb x 0x20) (parts-first l)
         rw (k, ltb-suc (length (up_to 0x20 l)) (length l)) (ap (onto_first x) e)
 
 -- a space counts for one
-pub times-count : (l : List ℕ) → times 0x20 l ≡ count_by (λ c. c == 0x20) l
+pub times_count : (l : List ℕ) → times 0x20 l ≡ count_by (λ c. c == 0x20) l
 unfolding times
-times-count [] = refl
-times-count (x ∷ l) = ap (λ (n : ℕ). bit (eqb x 0x20) + n) (times-count l) ∙ sym (sum_by-cons (λ c. cond (c == 0x20) 1 0) x l)
+times_count [] = refl
+times_count (x ∷ l) = ap (λ (n : ℕ). bit (eqb x 0x20) + n) (times_count l) ∙ sym (sum_by-cons (λ c. cond (c == 0x20) 1 0) x l)
 
 -- behind a part of a line that holds whole fields, fields end as they do in what is left
 next-shift : (l : List ℕ) (a b : ℕ) → a ≤ length l → next_of l (a + b) ≡ a + next_of (drop a l) b
@@ -124,7 +124,7 @@ part-or-none o ps k d {r} e h =
 
 -- there is one part more than there are spaces
 pub length-parts : (l : List ℕ) → length (parts l) ≡ times 0x20 l + 1
-length-parts l = rw times-count (length-slice_split (λ c. c == 0x20) l)
+length-parts l = rw times_count (length-slice_split (λ c. c == 0x20) l)
 
 -- ---- kinds
 

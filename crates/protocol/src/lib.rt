@@ -19,6 +19,7 @@ pub enum Kind {
 }
 
 // How many fields stand behind the command: one behind each space.
+#[tactic(auto, using(crate::proofs::Parts::times_count))]
 pub fn count(line: &[u8]) -> usize
     ensures { result ≡ times 0x20 line.now }
 {
@@ -34,6 +35,7 @@ fn field(line: &[u8], k: usize) -> &[u8]
 
 // The value of a digit, 0 to 9 or a to f; of another character some number below 16. `to_digit` gives none there, and `decode`
 // would need a case for it.
+#[tactic(auto, unfolding(crate::specs::Fields::digit_of))]
 fn digit(c: u8) -> u8
     ensures { result ≡ digit_of c }
 {
@@ -41,6 +43,7 @@ fn digit(c: u8) -> u8
 }
 
 // How many bytes a field is in hexadecimal, `-` for none.
+#[tactic(auto, using(crate::proofs::Agree::is_agree), unfolding(crate::specs::Fields::size_of))]
 fn size(f: &[u8]) -> Option<usize>
     ensures { result ≡ size_of f.now }
 {
@@ -54,6 +57,7 @@ fn size(f: &[u8]) -> Option<usize>
 }
 
 // A number with one more digit behind it.
+#[tactic(auto, using(crate::proofs::Numbers::one_digit), unfolding(crate::specs::Fields::with_digit))]
 fn with_digit(value: u64, c: u8) -> Option<u64>
     ensures { result ≡ with_digit value c }
 {
@@ -62,6 +66,7 @@ fn with_digit(value: u64, c: u8) -> Option<u64>
 }
 
 // A field in decimal; none where it is empty, has another character or is above 2^64 - 1.
+#[tactic(auto, using(crate::proofs::Numbers::all_digits), unfolding(crate::specs::Fields::number_of))]
 fn number(f: &[u8]) -> Option<u64>
     ensures { result ≡ number_of f.now }
 {
@@ -76,6 +81,7 @@ fn number(f: &[u8]) -> Option<u64>
 }
 
 // Whether field k is the word.
+#[tactic(auto, using(crate::proofs::Agree::is_agree))]
 pub fn is_word(line: &[u8], k: usize, word: &[u8]) -> bool
     ensures { result ≡ agree (field_of k line.now) word.now }
 {
@@ -90,6 +96,7 @@ pub fn number_at(line: &[u8], k: usize) -> Option<u64>
 }
 
 // Whether a field is of a kind.
+#[tactic(auto, using(crate::proofs::Agree::is_agree), unfolding(crate::specs::Kinds::is_kind))]
 fn is(f: &[u8], kind: Kind) -> bool
     ensures { result ≡ is_kind f.now kind }
 {
