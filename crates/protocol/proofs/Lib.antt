@@ -1,5 +1,5 @@
-mod Scans
-mod Fields
-mod Numbers
-mod Fitting
+pub mod Agree
+pub mod Parts
+pub mod Numbers
+pub mod Bytes
 pub mod OneOutcome

@@ -1,9 +1,8 @@
 -- What a field of a line says. A character is a byte. Assumes nothing.
-use Rattle.std.specs.Prelude.{Bool, true, false, cond, not, ◌&&◌, List, [], ◌∷◌, ℕ, zero, suc, ◌+◌, ◌-◌, ◌*◌, ◌/◌, ◌%◌, ◌^◌, eqb, leb, ltb, length, drop}
+use Rattle.std.specs.Prelude.{Bool, cond, not, ◌&&◌, List, [], ◌∷◌, Option, Some, None, ℕ, zero, suc, ◌+◌, ◌-◌, ◌*◌, ◌/◌, ◌%◌, ◌^◌, eqb, leb, ltb, length, drop, option_and_then}
 use Rattle.words.specs.Choice.{bit}
 use Rattle.words.specs.Lists.{agree}
 use Rattle.lines.specs.Hexadecimal.{all_hex}
-use Rattle.protocol.specs.declared.Parsed.{Parsed}
 
 -- what stands before the first byte b, or all
 unfoldable pub up_to : ℕ → List ℕ → List ℕ
@@ -33,37 +32,30 @@ field_of k l = up_to 0x20 (drop (start_of k l) l)
 unfoldable pub digit_of : ℕ → ℕ
 digit_of c = cond (ltb c 0x61) (c % 16) ((c % 16 + 9) % 16)
 
--- of what is no field in hexadecimal
-abbrev pub MALFORMED : ℕ
-MALFORMED = 2 ^ 64 - 1
-
--- half as many bytes as digits; the one dash says none
-unfoldable pub size_of : List ℕ → ℕ
+-- half as many bytes as digits; the one dash says none, and what is no field in hexadecimal has no size
+unfoldable pub size_of : List ℕ → Option ℕ
 size_of f =
     cond (agree f (0x2d ∷ []))
-    0
-    (cond (not (eqb (length f) 0) && (eqb (length f % 2) 0 && all_hex f)) (length f / 2) MALFORMED)
-
-abbrev pub not_good : Parsed
-not_good = record { good = false; value = 0 }
+    (Some 0)
+    (cond (not (eqb (length f) 0) && (eqb (length f % 2) 0 && all_hex f)) (Some (length f / 2)) None)
 
 -- 0 to 9
 unfoldable pub is_digit : ℕ → Bool
 is_digit c = leb 0x30 c && leb c 0x39
 
 -- a number with one more digit behind it, below 2^64
-unfoldable pub with_digit : ℕ → ℕ → Parsed
+unfoldable pub with_digit : ℕ → ℕ → Option ℕ
 with_digit v c =
-    cond (is_digit c && ltb (10 * v + (c - 0x30)) (2 ^ 64)) (record { good = true; value = 10 * v + (c - 0x30) }) not_good
+    cond (is_digit c && ltb (10 * v + (c - 0x30)) (2 ^ 64)) (Some (10 * v + (c - 0x30))) None
 
 -- a number with all these digits behind it
-unfoldable pub number_from : ℕ → List ℕ → Parsed
-number_from v [] = record { good = true; value = v }
-number_from v (c ∷ l) = cond (with_digit v c).good (number_from (with_digit v c).value l) not_good
+unfoldable pub number_from : ℕ → List ℕ → Option ℕ
+number_from v [] = Some v
+number_from v (c ∷ l) = option_and_then (λ w. number_from w l) (with_digit v c)
 
 -- at least one digit
-unfoldable pub number_of : List ℕ → Parsed
-number_of f = cond (eqb (length f) 0) not_good (number_from 0 f)
+unfoldable pub number_of : List ℕ → Option ℕ
+number_of f = cond (eqb (length f) 0) None (number_from 0 f)
 
 -- the bytes of pairs of digits
 unfoldable pub decoded : List ℕ → List ℕ

@@ -3,120 +3,39 @@
 // is secret.
 #![tactic(auto)]
 
-ghost use Rattle.std.specs.Prelude.{◌≡◌, ◌≤◌, length};
+ghost use Rattle.std.specs.Prelude.{◌≡◌};
 ghost use Rattle.words.specs.Lists.{agree};
-ghost use Rattle.protocol.specs.Fields.{
-  up_to,
-  times,
-  next_of,
-  start_of,
-  field_of,
-  digit_of,
-  size_of,
-  with_digit,
-  number_of,
-};
+ghost use Rattle.protocol.specs.Fields.{times, field_of, digit_of, size_of, with_digit, number_of};
 ghost use Rattle.protocol.specs.Kinds.{is_kind, fits_line, all_bytes};
 ghost use Rattle.protocol.specs.Promise.{Decoded};
 
-// What a field may be; any other kind is a number of bytes.
-pub const SIDE: u8 = 255;
-
-pub const NUMBER: u8 = 254;
-
-pub const BYTES: u8 = 253;
-
-// What `size` says of a field that is no bytes in hexadecimal.
-const MALFORMED: usize = usize::MAX;
-
-// A number, if it is good.
-#[derive(Clone, Copy)]
-pub struct Parsed {
-    pub good: bool,
-    pub value: u64,
-}
-
-// The index of the first such byte, or the length where there is none.
-fn until(s: &[u8], byte: u8) -> usize
-    ensures { result ≡ length (up_to byte s.now) }
-{
-    let mut i: usize = 0;
-    while i < s.len() {
-        if s[i] == byte {
-            return i;
-        }
-        i += 1;
-    }
-    i
+// What a field may be: `Sized` is so many bytes, `Bytes` any number of them.
+#[derive(Clone, Copy, Debug, PartialEq, Eq)]
+pub enum Kind {
+    Side,
+    Number,
+    Bytes,
+    Sized(usize),
 }
 
 // How many fields stand behind the command: one behind each space.
+#[tactic(auto, using(crate::proofs::Parts::times_count))]
 pub fn count(line: &[u8]) -> usize
     ensures { result ≡ times 0x20 line.now }
 {
-    let mut n: usize = 0;
-    let mut i: usize = 0;
-    while i < line.len() {
-        n += (line[i] == b' ') as usize;
-        i += 1;
-    }
-    n
-}
-
-// The index behind the space that ends the field there, or the length where none does.
-fn next(line: &[u8], at: usize) -> usize
-    requires { at ≤ length line.now }
-    ensures { result ≡ next_of line.now at }
-{
-    let n = until(&line[at..], b' ');
-    if n < line.len() - at {
-        at + n + 1
-    } else {
-        line.len()
-    }
-}
-
-// Where field k starts, or the length where there is none.
-fn start(line: &[u8], k: usize) -> usize
-    ensures { result ≡ start_of k line.now }
-{
-    let mut at: usize = 0;
-    let mut i: usize = 0;
-    while i < k {
-        at = next(line, at);
-        i += 1;
-    }
-    at
+    line.iter().filter(|c| **c == b' ').count()
 }
 
 // Field k, empty where there is none.
 fn field(line: &[u8], k: usize) -> &[u8]
     ensures { result.now ≡ field_of k line.now }
 {
-    let at = start(line, k);
-    let rest = &line[at..];
-    let n = until(rest, b' ');
-    &rest[..n]
+    line.split(|c| *c == b' ').nth(k).unwrap_or(&[])
 }
 
-// Whether both are the same.
-fn same(a: &[u8], b: &[u8]) -> bool
-    ensures { result ≡ agree a.now b.now }
-{
-    if a.len() != b.len() {
-        return false;
-    }
-    let mut i: usize = 0;
-    while i < a.len() {
-        if a[i] != b[i] {
-            return false;
-        }
-        i += 1;
-    }
-    true
-}
-
-// The value of a digit, 0 to 9 or a to f; of another character some number below 16.
+// The value of a digit, 0 to 9 or a to f; of another character some number below 16. `to_digit` gives none there, and `decode`
+// would need a case for it.
+#[tactic(auto, unfolding(crate::specs::Fields::digit_of))]
 fn digit(c: u8) -> u8
     ensures { result ≡ digit_of c }
 {
@@ -124,141 +43,95 @@ fn digit(c: u8) -> u8
 }
 
 // How many bytes a field is in hexadecimal, `-` for none.
-fn size(f: &[u8]) -> usize
+#[tactic(auto, using(crate::proofs::Agree::is_agree), unfolding(crate::specs::Fields::size_of))]
+fn size(f: &[u8]) -> Option<usize>
     ensures { result ≡ size_of f.now }
 {
-    if same(f, b"-") {
-        return 0;
+    if f == b"-".as_slice() {
+        return Some(0);
     }
-    if f.len() == 0 {
-        return MALFORMED;
+    if f.is_empty() || f.len() % 2 != 0 || !lines::all_hex(f) {
+        return None;
     }
-    if f.len() % 2 != 0 {
-        return MALFORMED;
-    }
-    if !lines::all_hex(f) {
-        return MALFORMED;
-    }
-    f.len() / 2
+    Some(f.len() / 2)
 }
 
 // A number with one more digit behind it.
-fn with_digit(value: u64, c: u8) -> Parsed
+#[tactic(auto, using(crate::proofs::Numbers::one_digit), unfolding(crate::specs::Fields::with_digit))]
+fn with_digit(value: u64, c: u8) -> Option<u64>
     ensures { result ≡ with_digit value c }
 {
-    let none = Parsed {
-        good: false,
-        value: 0,
-    };
-    if c < b'0' {
-        return none;
-    }
-    if b'9' < c {
-        return none;
-    }
-    let d = (c - b'0') as u64;
-    if (u64::MAX - d) / 10 < value {
-        return none;
-    }
-    Parsed {
-        good: true,
-        value: 10 * value + d,
-    }
+    let d = (c as char).to_digit(10)?;
+    value.checked_mul(10)?.checked_add(d as u64)
 }
 
-// A field in decimal; not good, and 0, where it is empty, has another character or is above 2^64 - 1.
-fn number(f: &[u8]) -> Parsed
+// A field in decimal; none where it is empty, has another character or is above 2^64 - 1.
+#[tactic(auto, using(crate::proofs::Numbers::all_digits), unfolding(crate::specs::Fields::number_of))]
+fn number(f: &[u8]) -> Option<u64>
     ensures { result ≡ number_of f.now }
 {
-    if f.len() == 0 {
-        return Parsed {
-            good: false,
-            value: 0,
-        };
+    if f.is_empty() {
+        return None;
     }
-    let mut value: u64 = 0;
-    let mut i: usize = 0;
-    while i < f.len() {
-        let c = f[i];
-        let next = with_digit(value, c);
-        if !next.good {
-            return next;
-        }
-        value = next.value;
-        i += 1;
+    let mut value = 0;
+    for c in f {
+        value = with_digit(value, *c)?;
     }
-    Parsed { good: true, value }
+    Some(value)
 }
 
 // Whether field k is the word.
+#[tactic(auto, using(crate::proofs::Agree::is_agree))]
 pub fn is_word(line: &[u8], k: usize, word: &[u8]) -> bool
     ensures { result ≡ agree (field_of k line.now) word.now }
 {
-    same(field(line, k), word)
+    field(line, k) == word
 }
 
 // Field k as a number.
-pub fn number_at(line: &[u8], k: usize) -> Parsed
+pub fn number_at(line: &[u8], k: usize) -> Option<u64>
     ensures { result ≡ number_of (field_of k line.now) }
 {
     number(field(line, k))
 }
 
 // Whether a field is of a kind.
-fn is(f: &[u8], kind: u8) -> bool
+#[tactic(auto, using(crate::proofs::Agree::is_agree), unfolding(crate::specs::Kinds::is_kind))]
+fn is(f: &[u8], kind: Kind) -> bool
     ensures { result ≡ is_kind f.now kind }
 {
-    if kind == SIDE {
-        if same(f, b"c") {
-            return true;
-        }
-        return same(f, b"s");
+    match kind {
+        Kind::Side => f == b"c".as_slice() || f == b"s".as_slice(),
+        Kind::Number => number(f).is_some(),
+        Kind::Bytes => size(f).is_some(),
+        Kind::Sized(n) => size(f) == Some(n),
     }
-    if kind == NUMBER {
-        let n = number(f);
-        return n.good;
-    }
-    let n = size(f);
-    if kind == BYTES {
-        return n != MALFORMED;
-    }
-    n == kind as usize
 }
 
 // Whether the fields behind the command are of these kinds, one each.
-pub fn fits(line: &[u8], kinds: &[u8]) -> bool
+pub fn fits(line: &[u8], kinds: &[Kind]) -> bool
     ensures { result ≡ fits_line line.now kinds.now }
 {
-    if count(line) != kinds.len() {
-        return false;
-    }
-    let mut i: usize = 0;
-    while i < kinds.len() {
-        let kind = kinds[i];
-        if !is(field(line, i + 1), kind) {
-            return false;
-        }
-        i += 1;
-    }
-    true
+    let as_many = count(line) == kinds.len();
+    as_many
+        && line
+            .split(|c| *c == b' ')
+            .skip(1)
+            .zip(kinds)
+            .all(|(f, kind)| is(f, *kind))
 }
 
 // Whether all fields behind the command are bytes.
 pub fn all_bytes(line: &[u8]) -> bool
     ensures { result ≡ all_bytes line.now }
 {
-    let n = count(line);
-    let mut i: usize = 0;
-    while i < n {
-        if !is(field(line, i + 1), BYTES) {
-            return false;
-        }
-        i += 1;
-    }
-    true
+    line.split(|c| *c == b' ')
+        .skip(1)
+        .all(|f| is(f, Kind::Bytes))
 }
 
-// The bytes of field k into the front of out, and how many they are; none and out as found where it has no room for them.
+// The bytes of field k into the front of out, and how many they are; none and out as found where it has no room for them. No
+// `Option`: `Decoded` promises the number.
 pub fn decode(line: &[u8], k: usize, out: &mut [u8]) -> usize
     ensures { Decoded line.now k out.old result out.new }
 {
@@ -267,12 +140,10 @@ pub fn decode(line: &[u8], k: usize, out: &mut [u8]) -> usize
     if out.len() < n {
         return 0;
     }
-    let mut i: usize = 0;
-    while i < n {
-        let high = digit(f[2 * i]);
-        let low = digit(f[2 * i + 1]);
+    for (i, pair) in f.chunks_exact(2).enumerate() {
+        let high = digit(pair[0]);
+        let low = digit(pair[1]);
         out[i] = 16 * high + low;
-        i += 1;
     }
     n
 }

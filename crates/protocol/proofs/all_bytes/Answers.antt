@@ -1,42 +1,24 @@
--- `protocol::all_bytes` meets its contract. The loop's invariant: all fields are bytes exactly if those from i on are; the
--- measure is how many fields are left. Assumes nothing.
-use mathlib.Core.Bool.{Bool}
-use mathlib.Core.List.{List}
-use mathlib.Core.Path.{◌≡◌, sym, ap, ◌∙◌}
-use Prim.Native.Nat.{ℕ, ◌+◌, ◌-◌}
-use native.Mathlib.Omega.{arith}
-use lib.ListN.{replicate}
-use Rattle.protocol.specs.Fields.{times, field_of}
-use Rattle.protocol.specs.Kinds.{BYTES, is_kind, kinds_from, all_bytes}
-use Rattle.protocol.proofs.Fitting.{each_here, each-wrong, each-done}
+-- `protocol::all_bytes` meets its contract: the parts behind the first are the fields behind the command. Assumes nothing.
+use Rattle.std.proofs.Common.{rules, ◌≡◌, List, ℕ, drop, arith, ◌∙◌, ◌==◌}
+use Rattle.std.specs.List.{list_all}
+use Rattle.std.proofs.lemmas.Iterator.Adapters.{YieldsList-from_skip}
+use Rattle.std.proofs.lemmas.Iterator.Search.{all_from_yields_List}
+use Rattle.std.proofs.lemmas.Iterator.Splits.{YieldsList-from_slice_split}
+use Rattle.protocol.proofs.Parts.{parts, length-parts, kind-parts}
+use Rattle.protocol.specs.Fields.{times}
+use Rattle.protocol.specs.Kinds.{is_kind, all_bytes}
+use Rattle.protocol.specs.declared.Kind.TheVariants.{Bytes}
 use Rattle.protocol.proofs.all_bytes.Goals as goal
-
-pub loop-i-init : goal.loop-i-init
-loop-i-init c =
-    let line : List ℕ = c.args.line.now in
-    let e : times 0x20 line ≡ c.count-n.result - 0 = omega (arith, c.count-n.ensures) in
-    (omega arith, ap (λ (n : ℕ). kinds_from line 0 (replicate n BYTES)) e)
-
--- what is said of a field is said of it in the line
-told : (line : List ℕ) (i : ℕ) {f : List ℕ} {b : Bool}
-    → f ≡ field_of (i + 1) line → b ≡ is_kind f BYTES → b ≡ is_kind (field_of (i + 1) line) BYTES
-told line i e h = h ∙ ap (λ (f : List ℕ). is_kind f BYTES) e
-
-pub returns-then-not-is : goal.returns-then-not-is
-unfolding all_bytes
-returns-then-not-is c =
-    let l = c.loop-i in
-    let said = told c.args.line.now l.i c.field.ensures c.is.ensures in
-    sym (l.invariant.1 ∙ each-wrong _ BYTES _ l.i (omega arith) (sym said ∙ c.if-not-is.true))
-
-pub loop-i-preserved : goal.loop-i-preserved
-loop-i-preserved c =
-    let l = c.loop-i in
-    let said = told c.args.line.now l.i c.field.ensures c.is.ensures in
-    (omega arith, l.invariant.1 ∙ each_here _ BYTES _ l.i (omega arith) (sym said ∙ c.if-not-is.false))
 
 pub returns : goal.returns
 unfolding all_bytes
 returns c =
-    let l = c.loop-i in
-    sym (l.invariant.1 ∙ each-done _ BYTES _ l.i (omega arith))
+    let line : List ℕ = c.args.line.now in
+    let e : c.all.result ≡ list_all (λ f. is_kind f Bytes) (drop 1 (parts line))
+    = all_from_yields_List (λ f. is_kind f Bytes) _ _ _ c.all.ensures.ran
+    (YieldsList-from_skip 1
+    (YieldsList-from_slice_split _ (λ x. x == 0x20) line (search rules) (search rules) (search rules)
+    (λ x b q k. search rules))
+    (search rules))
+    (λ x b q k. search rules) in
+    e ∙ kind-parts line Bytes (times 0x20 line) 0 (omega (arith, length-parts line))

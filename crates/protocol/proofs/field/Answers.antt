@@ -1,23 +1,15 @@
--- `protocol::field` meets its contract: the part from its start up to the next space. Assumes nothing.
-use mathlib.Core.Path.{sym}
-use native.Mathlib.Omega.{arith}
-use lib.Seq.{length-take-le}
-use Rattle.protocol.proofs.Fields.{start_fits, cut_field}
-use Rattle.protocol.proofs.Scans.{until-fits}
+-- `protocol::field` meets its contract: it gives part k of the line, cut at its spaces. Assumes nothing.
+use Rattle.std.proofs.Common.{rules, ◌≡◌, List, ℕ, Bor, ◌==◌}
+use Rattle.std.specs.Prelude.{slice_get, option_map}
+use Rattle.std.proofs.lemmas.Iterator.Consumers.{nth_from_yields_List}
+use Rattle.std.proofs.lemmas.Iterator.Splits.{YieldsList-from_slice_split}
+use Rattle.protocol.proofs.Parts.{parts, field-part, part-or-none}
 use Rattle.protocol.proofs.field.Goals as goal
 
-pub slice_bounds-rest-count : goal.slice_bounds-rest-count
-slice_bounds-rest-count c =
-    let a = c.args in
-    omega (arith, c.start-at.ensures, start_fits a.k a.line.now)
-
-pub slice_bounds-rest-start : goal.slice_bounds-rest-start
-slice_bounds-rest-start c =
-    let a = c.args in
-    omega (arith, c.start-at.ensures, start_fits a.k a.line.now)
-
-pub slice_bounds-result-end : goal.slice_bounds-result-end
-slice_bounds-result-end c = sym (length-take-le _ _ (until-fits _ _ _ c.until-n.ensures))
-
 pub returns : goal.returns
-returns c = cut_field _ _ _ _ c.start-at.ensures c.until-n.ensures
+returns c =
+    let line : List ℕ = c.args.line.now in
+    let e : option_map (λ (x : Bor (List ℕ)). x.now) c.nth.result ≡ slice_get (parts line) c.args.k
+    = nth_from_yields_List c.nth.result _ c.args.k c.nth.ensures.ran
+    (YieldsList-from_slice_split _ (λ x. x == 0x20) line (search rules) (search rules) (search rules) (λ x b q k. search rules)) in
+    rw (← field-part c.args.k line) (part-or-none _ _ c.args.k _ e c.unwrap_or.ensures)

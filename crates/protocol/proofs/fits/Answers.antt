@@ -1,44 +1,37 @@
--- `protocol::fits` meets its contract. The loop's invariant: the fields are of their kinds exactly if those from i on are; the
--- measure is how many kinds are left. Assumes nothing.
-use mathlib.Core.Bool.{Bool}
-use mathlib.Core.List.{List}
-use mathlib.Core.Path.{◌≡◌, sym, ap, ◌∙◌}
-use Prim.Native.Nat.{ℕ, ◌+◌}
-use native.Mathlib.Omega.{arith}
-use borrow.Author.Tests.{eq-eqb, ne_eqb}
-use lib.ListN.{length, get_or}
-use Rattle.protocol.specs.Fields.{times, field_of}
+-- `protocol::fits` meets its contract: the parts behind the first stand beside the kinds. Assumes nothing.
+use Rattle.std.proofs.Common.{rules, ◌≡◌, List, ℕ, drop, arith, ◌∙◌, ◌==◌, eqb, false, eq-eqb, ne_eqb, length}
+use Rattle.std.specs.List.{list_all, zip}
+use Rattle.std.proofs.lemmas.Iterator.{YieldsList-from_zip, YieldsList-from_slice}
+use Rattle.std.proofs.lemmas.Iterator.Adapters.{YieldsList-from_skip}
+use Rattle.std.proofs.lemmas.Iterator.Search.{all_from_yields_List}
+use Rattle.std.proofs.lemmas.Iterator.Splits.{YieldsList-from_slice_split}
+use Rattle.protocol.proofs.Parts.{parts, length-parts, kinds-parts}
+use Rattle.protocol.specs.Fields.{times}
 use Rattle.protocol.specs.Kinds.{is_kind, fits_line}
-use Rattle.protocol.proofs.Fitting.{kind_here, kind_wrong, kinds_done}
+use Rattle.protocol.specs.declared.Kind.{Kind}
 use Rattle.protocol.proofs.fits.Goals as goal
 
-pub returns-then-count-kinds : goal.returns-then-count-kinds
+pub returns-then-as_many : goal.returns-then-as_many
 unfolding fits_line
-returns-then-count-kinds c =
-    let a = c.args in
-    rw (ne_eqb (times 0x20 a.line.now) (length a.kinds.now) (λ e. c.if-count-kinds.true (c.count.ensures ∙ e)))
+returns-then-as_many c =
+    let line : List ℕ = c.args.line.now in
+    let kinds : List Kind = c.args.kinds.now in
+    let n : times 0x20 line ≡ length kinds = omega arith in
+    let e : c.all.result ≡ list_all (λ p. is_kind p.0 p.1) (zip (drop 1 (parts line)) kinds)
+    = all_from_yields_List (λ p. is_kind p.0 p.1) c.all.new.self _ _ c.all.ensures.ran
+    (YieldsList-from_zip
+    (YieldsList-from_skip 1
+    (YieldsList-from_slice_split _ (λ x. x == 0x20) line (search rules) (search rules) (search rules)
+    (λ x b q k. search rules))
+    (search rules))
+    (YieldsList-from_slice kinds (search rules)))
+    (λ x b q k. search rules) in
+    rw (eq-eqb _ _ n) (e ∙ kinds-parts line 0 kinds (omega (arith, length-parts line)))
 
--- what is said of a field is said of it in the line
-told : (line : List ℕ) (i kind : ℕ) {f : List ℕ} {b : Bool}
-    → f ≡ field_of (i + 1) line → b ≡ is_kind f kind → b ≡ is_kind (field_of (i + 1) line) kind
-told line i kind e h = h ∙ ap (λ (f : List ℕ). is_kind f kind) e
-
-pub returns-then-not-is : goal.returns-then-not-is
+pub returns-else-as_many : goal.returns-else-as_many
 unfolding fits_line
-returns-then-not-is c =
-    let l = c.loop-i in
-    let said = told c.args.line.now l.i (get_or c.args.kinds.now l.i 0) c.field.ensures c.is.ensures in
-    rw (eq-eqb _ _ l.invariant.1)
-    (sym (l.invariant.2 ∙ kind_wrong _ _ l.i (omega arith) (sym said ∙ c.if-not-is.true)))
-
-pub loop-i-preserved : goal.loop-i-preserved
-loop-i-preserved c =
-    let l = c.loop-i in
-    let said = told c.args.line.now l.i (get_or c.args.kinds.now l.i 0) c.field.ensures c.is.ensures in
-    (omega arith, l.invariant.1, l.invariant.2 ∙ kind_here _ _ l.i (omega arith) (sym said ∙ c.if-not-is.false))
-
-pub returns : goal.returns
-unfolding fits_line
-returns c =
-    let l = c.loop-i in
-    rw (eq-eqb _ _ l.invariant.1) (sym (l.invariant.2 ∙ kinds_done _ _ l.i (omega arith)))
+returns-else-as_many c =
+    let line : List ℕ = c.args.line.now in
+    let kinds : List Kind = c.args.kinds.now in
+    let other : eqb (times 0x20 line) (length kinds) ≡ false = ne_eqb _ _ (λ e. c.if-as_many.false (omega arith)) in
+    rw other (ne_eqb _ _ c.if-as_many.false)
