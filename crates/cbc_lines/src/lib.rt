@@ -1,5 +1,5 @@
-// CBC both ways, as two lines that the programs of SM4's vectors print. No part of the library. As in `programs`, what is
-// printed is no part of a contract.
+// CBC both ways, as two lines that the programs of SM4's vectors print. No part of the library. As in `programs`, what
+// is printed is no part of a contract.
 #![tactic(auto)]
 
 ghost use Rattle.std.specs.Prelude.{◌≡◌, IfOk};
@@ -9,7 +9,8 @@ use sm4::Sm4Cipher;
 use std::alloc::Global;
 use std::io;
 
-// A line: a copy of the body enciphered where it stands behind its IV. Another: what that deciphers to, block by block, over bytes 0xee.
+// A line: a copy of the body enciphered where it stands behind its IV. Another: what that deciphers to, block by block,
+// over bytes 0xee.
 pub fn both_cbc(
     rt: &impl Print,
     alloc: Global,

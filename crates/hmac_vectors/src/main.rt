@@ -1,5 +1,6 @@
-// Runs HMAC-SM3 on published vectors, on lengths about the end of a block and on states, and writes what it answers, one
-// line each. The file stdout has the values of other implementations, which the script `expected` gathers and names.
+// Runs HMAC-SM3 on published vectors, on lengths about the end of a block and on states, and writes what it answers,
+// one line each. The file stdout has the values of other implementations, which the script `expected` gathers and
+// names.
 #![tactic(auto)]
 
 use hmac::{HmacSm3, Verified};

@@ -1,5 +1,5 @@
-// Runs the three derivations on right lengths and on lengths one off, and writes what each answers and leaves in its output,
-// one line each. The file stdout has the values of OpenSSL, which the script `expected` gathers.
+// Runs the three derivations on right lengths and on lengths one off, and writes what each answers and leaves in its
+// output, one line each. The file stdout has the values of OpenSSL, which the script `expected` gathers.
 #![tactic(auto)]
 
 use key_schedule::TlcpRole;
@@ -47,8 +47,8 @@ fn pattern(alloc: Global, step: u8, first: u8, n: usize) -> Result<Vec<u8>, Allo
     Ok(bytes)
 }
 
-// A line: a derivation on inputs of these lengths and an output of n bytes, the answer, and the output or a dash for none. No two
-// inputs begin with the same byte, and the output is filled beforehand.
+// A line: a derivation on inputs of these lengths and an output of n bytes, the answer, and the output or a dash for
+// none. No two inputs begin with the same byte, and the output is filled beforehand.
 fn run(
     rt: &impl Print,
     alloc: Global,

@@ -1,5 +1,5 @@
-// Records that the programs of vectors open, made by hand: a text by a rule, its MAC, padding of any length, and all that enciphered.
-// No part of the library, whose sealing takes the shortest padding only.
+// Records that the programs of vectors open, made by hand: a text by a rule, its MAC, padding of any length, and all
+// that enciphered. No part of the library, whose sealing takes the shortest padding only.
 #![tactic(auto)]
 
 ghost use Rattle.std.specs.Prelude.{◌≡◌};
@@ -24,8 +24,8 @@ pub fn keys() -> RecordKeysCbc
     RecordKeysCbc::client_half(&key_block).keys
 }
 
-// A text of len bytes, its MAC, and padding as far as there is room, laid behind the place of the IV. A record that has no room for
-// the text stays as found.
+// A text of len bytes, its MAC, and padding as far as there is room, laid behind the place of the IV. A record that has
+// no room for the text stays as found.
 pub fn lay_body(len: u16, padlen: u8, record: &mut [u8])
     ensures { Laid len padlen «record».old «record».new }
 {
@@ -33,7 +33,7 @@ pub fn lay_body(len: u16, padlen: u8, record: &mut [u8])
     if record.len() < end {
         return;
     }
-    // byte i behind the IV is 7 i + 94; what the MAC covers in front of the text stands there while the MAC is worked out
+    // byte i behind the IV is 7 i + 94; right in front of it stands what else the MAC covers, till the IV is laid there
     spread(7, 238, record);
     let header = record::record_header(NUMBER, TYPE, TLCP_RECORD_VERSION, len);
     words::copy_at(record, 3, &header);
@@ -42,7 +42,8 @@ pub fn lay_body(len: u16, padlen: u8, record: &mut [u8])
     words::fill_at(record, end + MAC_LEN, usize::from(padlen) + 1, padlen);
 }
 
-// The IV laid in front of the body, which is enciphered where it stands. A record that has no room for the IV stays as found.
+// The IV laid in front of the body, which is enciphered where it stands. A record that has no room for the IV stays as
+// found.
 pub fn close(record: &mut [u8])
     ensures { Closed «record».old «record».new }
 {

@@ -1,6 +1,7 @@
-// Opens records by the one call: every length of padding, the sizes about each limit, texts longer than what is sealed, wrong
-// padding, wrong MACs, headers of another record, and rooms. A line has the answer, the length, the count and a digest of the
-// whole output. The file stdout has the values of other implementations, which the script `expected` gathers.
+// Opens records by the one call: every length of padding, the sizes about each limit, texts longer than what is sealed,
+// wrong padding, wrong MACs, headers of another record, and rooms. A line has the answer, the length, the count and a
+// digest of the whole output. The file stdout has the values of other implementations, which the script `expected`
+// gathers.
 #![tactic(auto)]
 
 use made_records::{NUMBER, TYPE};
@@ -116,8 +117,8 @@ fn edges(rt: &impl Print, alloc: Global) -> io::Result<()> {
     Ok(())
 }
 
-// A wrong byte in a text of 100 bytes, its MAC up to 132, and padding of 172 bytes. The last byte becomes 170, 0 (good padding, and
-// so the MAC is looked for elsewhere) and 255.
+// A wrong byte in a text of 100 bytes, its MAC up to 132, and padding of 172 bytes. The last byte becomes 170, 0 (good
+// padding, and so the MAC is looked for elsewhere) and 255.
 fn wrong_bytes(rt: &impl Print, alloc: Global) -> io::Result<()> {
     for (at, mask) in [
         (0, 1),

@@ -1,5 +1,6 @@
-// Takes the halves of a key block and seals texts about the ends of blocks and of the limit, and writes what is answered,
-// one line each. The file stdout has the values of other implementations, which the script `expected` gathers.
+// Takes the halves of a key block and seals texts about the ends of blocks and of the limit, and writes what is
+// answered, one line each. The file stdout has the values of other implementations, which the script `expected`
+// gathers.
 #![tactic(auto)]
 
 use key_schedule::TlcpRole;
@@ -35,8 +36,9 @@ fn halves(rt: &impl Print, n: u8) -> io::Result<()> {
     Ok(())
 }
 
-// A line: the pattern's first n bytes sealed under the keys of a role, into room bytes that held 0xee before. Its first 128 bytes are
-// the key block. The lengths of both, the answer, the reported length, and all of out afterwards, or its digest where it is long.
+// A line: the pattern's first n bytes sealed under the keys of a role, into room bytes that held 0xee before. Its first
+// 128 bytes are the key block. The lengths of both, the answer, the reported length, and all of out afterwards, or its
+// digest where it is long.
 fn seal(rt: &impl Print, alloc: Global, role: TlcpRole, n: usize, room: usize) -> io::Result<()> {
     let mut key_block = [0u8; 128];
     spread(7, 3, &mut key_block);

@@ -1,5 +1,5 @@
-// Runs SM4, block by block and in mode CBC, on vectors that other implementations publish, and writes what it answers, one
-// line each. The file stdout has their values, which the script `expected` gathers and names.
+// Runs SM4, block by block and in mode CBC, on vectors that other implementations publish, and writes what it answers,
+// one line each. The file stdout has their values, which the script `expected` gathers and names.
 #![tactic(auto)]
 
 use cbc_lines::both_cbc;
@@ -25,7 +25,8 @@ fn turned<F: Fn([u8; 16]) -> [u8; 16]>(
     println!(rt; "")
 }
 
-// Key, plain blocks and cipher blocks, as each is published: the plain blocks are enciphered, and the cipher blocks deciphered.
+// Key, plain blocks and cipher blocks, as each is published: the plain blocks are enciphered, and the cipher blocks
+// deciphered.
 fn ecbs(rt: &impl Print) -> io::Result<()> {
     let cases: [(&str, u128, &[u128], &[u128]); 6] = [
         (

@@ -1,6 +1,6 @@
-// Runs SM4 on the examples of GB/T 32907-2016, annex A, and its mode CBC on bodies of some lengths and on block numbers in
-// range and out of it, and writes what it answers, one line each. The file stdout has the values of the standard and of
-// another implementation, which the script `expected` gathers and names.
+// Runs SM4 on the examples of GB/T 32907-2016, annex A, and its mode CBC on bodies of some lengths and on block numbers
+// in range and out of it, and writes what it answers, one line each. The file stdout has the values of the standard and
+// of another implementation, which the script `expected` gathers and names.
 #![tactic(auto)]
 
 use cbc_lines::both_cbc;
@@ -40,8 +40,8 @@ fn body(rt: &impl Print, alloc: Global, n: usize) -> io::Result<()> {
     both_cbc(rt, alloc, &name, cipher(), iv, &body)
 }
 
-// A line: all of an output of room bytes after block k of a record of size bytes is asked for. Where there is no such block, nothing
-// changes.
+// A line: all of an output of room bytes after block k of a record of size bytes is asked for. Where there is no such
+// block, nothing changes.
 fn block(rt: &impl Print, alloc: Global, size: usize, room: usize, k: usize) -> io::Result<()> {
     let mut record = vec![in alloc; 0u8; size]?;
     spread(7, 3, &mut record);

@@ -1,6 +1,6 @@
-// Opens records step by step and writes every field of the state, and a digest of the whole output, after each step: records
-// that are accepted and refused, states that were tampered with, ended openings and refused starts. The file stdout has the
-// values of a model that was written from the rules, which the script `expected` runs.
+// Opens records step by step and writes every field of the state, and a digest of the whole output, after each step:
+// records that are accepted and refused, states that were tampered with, ended openings and refused starts. The file
+// stdout has the values of a model that was written from the rules, which the script `expected` runs.
 #![tactic(auto)]
 
 use made_records::{NUMBER, TYPE};
@@ -140,21 +140,19 @@ fn long<'a>(
 }
 
 // That opened to its end.
-fn whole(rt: &impl Print, run: Run<'_>) -> io::Result<OpeningCbc> {
-    let mut run = run;
+fn whole(rt: &impl Print, mut run: Run<'_>) -> io::Result<OpeningCbc> {
     run.open(rt, 14)
 }
 
-// That with the opening changed before the first step of the MAC, in a way that no rule refuses. Handed back is the opening as it was
-// before.
+// That with the opening changed before the first step of the MAC, in a way that no rule refuses. Handed back is the
+// opening as it was before.
 fn changed<F: FnOnce(OpeningCbc) -> OpeningCbc>(
     rt: &impl Print,
-    run: Run<'_>,
+    mut run: Run<'_>,
     change: F,
 ) -> io::Result<OpeningCbc>
     requires { F.IsAlwaysCallable change }
 {
-    let mut run = run;
     let opening = run.open(rt, 9)?;
     run.steps(rt, 10, 14, change(opening))?;
     Ok(opening)
@@ -222,7 +220,8 @@ fn other_sizes(rt: &impl Print, alloc: Global, opening: OpeningCbc) -> io::Resul
     sized(rt, alloc, "room", 127, opening, 144, 127)
 }
 
-// A length that no body has, with T, a record and an output that would be of it: two short ones, and one block above the longest.
+// A length that no body has, with T, a record and an output that would be of it: two short ones, and one block above
+// the longest.
 fn other_bodies(rt: &impl Print, alloc: Global, opening: OpeningCbc) -> io::Result<()> {
     for (n, held) in [(32u16, 0), (136, 0), (16448, opening.held)] {
         let other = OpeningCbc {

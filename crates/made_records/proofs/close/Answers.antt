@@ -6,12 +6,14 @@ use Rattle.made_records.specs.Made.{keys, closed}
 use Rattle.made_records.proofs.Closed.{record_closed}
 use Rattle.made_records.proofs.close.Goals as goal
 
+-- no room
 pub returns-then-record-lt-IV_LEN : goal.returns-then-record-lt-IV_LEN
 unfolding closed
 returns-then-record-lt-IV_LEN c =
     let none : leb 16 (length c.args.record.now) ≡ false = lt-leb _ _ c.if-record-lt-IV_LEN.true in
     record { output = rw none refl }
 
+-- the IV is laid there, and the rest enciphered
 pub returns : goal.returns
 unfolding closed cipher_of
 returns c =
@@ -20,6 +22,6 @@ returns c =
     record {
       output =
           rw room
-          (record_closed (encrypt (round_keys_of keys.enc_key)) r c.copy_at.new.out c.encipher_cbc.new.body c.if-record-lt-IV_LEN.false
-          c.copy_at.ensures.output (rw (c.new.ensures, c.keys.ensures) at c.encipher_cbc.ensures.output));
+          (record_closed (encrypt (round_keys_of keys.enc_key)) r c.copy_at.new.out c.encipher_cbc.new.body
+          c.if-record-lt-IV_LEN.false c.copy_at.ensures.output (rw (c.new.ensures, c.keys.ensures) at c.encipher_cbc.ensures.output));
     }

@@ -7,6 +7,7 @@ use Rattle.programs.specs.Rule.{byte}
 use Rattle.made_records.specs.Made.{keys}
 use Rattle.made_records.proofs.keys.Goals as goal
 
+-- a key block of 128 bytes is not refused
 pub returns : goal.returns
 unfolding keys halved_by
 returns c =

@@ -5,6 +5,7 @@ use Rattle.programs.specs.Odd.{odd}
 use Rattle.programs.specs.Rule.{byte}
 use Rattle.programs.proofs.odd.Goals as goal
 
+-- field by field
 pub returns : goal.returns
 unfolding odd
 returns c = let e : c.spread.new.out ≡ table (byte 7 3) 64 = c.spread.ensures.output in rw e refl

@@ -18,4 +18,5 @@ pub loop-byte-preserved : goal.loop-byte-preserved
 loop-byte-preserved c =
     let a = c.args in
     let l = c.loop-byte in
-    (byte_more a.step a.first l.byte-index l.x l.invariant.0, table_more _ _ _ _ (omega arith) l.invariant.0 l.invariant.1)
+    let next = byte_more a.step a.first l.byte-index l.x l.invariant.0 in
+    (next, table_more _ _ _ _ (omega arith) l.invariant.0 l.invariant.1)

@@ -1,5 +1,5 @@
--- `programs::spread` meets its contract. The loop's invariant: the bytes before the next one are made, and x is the next byte of the
--- rule. Assumes nothing.
+-- `programs::spread` meets its contract. The loop's invariant: the bytes before the next one are made, and x is the next
+-- byte of the rule. Assumes nothing.
 use Rattle.std.proofs.Common.{◌≡◌, take}
 use Rattle.words.specs.Lists.{table}
 use Rattle.programs.specs.Rule.{byte}
