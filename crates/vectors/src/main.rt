@@ -82,12 +82,7 @@ fn main(rt: HostRuntime) -> io::Result<()> {
     for sizes in cuts {
         cut(&rt, sizes)?;
     }
-    for (fill, total) in [
-        (64, 64),
-        (usize::MAX, 5),
-        (5, u64::MAX - 2),
-        (60, 7),
-    ] {
+    for (fill, total) in [(64, 64), (usize::MAX, 5), (5, u64::MAX - 2), (60, 7)] {
         update_and_finalize(&rt, fill, total)?;
     }
     Ok(())
