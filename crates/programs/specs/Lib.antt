@@ -1,2 +1,3 @@
+pub mod Odd
 pub mod Promise
 pub mod Rule

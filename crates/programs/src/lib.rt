@@ -1,59 +1,45 @@
-// What the programs of vectors share: printing, and bytes made by a rule. No part of the library. What is printed is no part of
-// a contract, since none can say what is written to a file: the gate compares each program's output with its file stdout.
+// What the programs of vectors share: printing, bytes made by a rule, and states that no message leads to. No part of
+// the library. What is printed is no part of a contract, since none can say what is written to a file: the gate
+// compares each program's output with its file stdout.
 #![tactic(auto)]
 
-ghost use Rattle.std.specs.Prelude.{◌≡◌, IfOk};
+ghost use Rattle.std.specs.Prelude.{◌≡◌};
+ghost use Rattle.programs.specs.Odd.{odd};
 ghost use Rattle.programs.specs.Promise.{Spread};
 
-use std::io;
+use sm3::Sm3;
+use std::fmt;
 
-// s as it stands.
-pub fn text(rt: &impl Print, s: &[u8]) -> io::Result<()>
-    ensures { IfOk result (λ v. v ≡ tt) }
-{
-    rt.write_all(s)
-}
+// Bytes as a line has them: in hexadecimal.
+#[derive(Clone, Copy)]
+pub struct Hex<'a>(pub &'a [u8]);
 
-// n in decimal, behind a space or the label's dash.
-pub fn number(rt: &impl Print, before: &[u8], n: u64) -> io::Result<()>
-    ensures { IfOk result (λ v. v ≡ tt) }
-{
-    text(rt, before)?;
-    print!(rt; "{n}")
-}
-
-// A label with two numbers.
-pub fn label(rt: &impl Print, name: &[u8], a: usize, b: usize) -> io::Result<()>
-    ensures { IfOk result (λ v. v ≡ tt) }
-{
-    text(rt, name)?;
-    number(rt, b"-", a as u64)?;
-    number(rt, b"-", b as u64)
-}
-
-// A byte as a number: a call asks of an element only that it is there.
-fn wide(x: u8) -> u64 {
-    x as u64
-}
-
-// A space, and the bytes in hexadecimal.
-pub fn hex(rt: &impl Print, bytes: &[u8]) -> io::Result<()>
-    ensures { IfOk result (λ v. v ≡ tt) }
-{
-    text(rt, b" ")?;
-    for i in 0..bytes.len() {
-        print!(rt; "{:02x}", wide(bytes[i]))?;
+impl fmt::Display for Hex<'_> {
+    fn fmt<W: fmt::Write>(&self, f: &mut fmt::Formatter<W>) -> fmt::Result {
+        for byte in self.0 {
+            write!(f, "{byte:02x}")?;
+        }
+        Ok(())
     }
-    Ok(())
 }
 
-// The rest of a line: what is left of its label, a space, and the bytes in hexadecimal.
-pub fn line(rt: &impl Print, name: &[u8], bytes: &[u8]) -> io::Result<()>
-    ensures { IfOk result (λ v. v ≡ tt) }
-{
-    text(rt, name)?;
-    hex(rt, bytes)?;
-    text(rt, b"\n")
+// A running hash as a line has it: the words, the buffer, the fill and the total.
+#[derive(Clone, Copy)]
+pub struct State(pub Sm3);
+
+impl fmt::Display for State {
+    fn fmt<W: fmt::Write>(&self, f: &mut fmt::Formatter<W>) -> fmt::Result {
+        let h = self.0;
+        let words = sm3::digest_of(h.state);
+        write!(
+            f,
+            "{} {} {} {}",
+            Hex(&words),
+            Hex(&h.buffer),
+            h.buffer_len,
+            h.total_len
+        )
+    }
 }
 
 // Byte i of out is made first + step i, modulo 256.
@@ -61,8 +47,22 @@ pub fn spread(step: u8, first: u8, out: &mut [u8])
     ensures { Spread step first out.old out.new }
 {
     let mut x = first;
-    for i in 0..out.len() {
-        out[i] = x;
-        x = std::num::wrapping_add_u8(x, step);
+    for byte in out.iter_mut() {
+        *byte = x;
+        x = x.wrapping_add(step);
+    }
+}
+
+// A hash with this fill and total, which no message leads to: its words count from 1, and its buffer is a pattern.
+pub fn odd(fill: usize, total: u64) -> Sm3
+    ensures { result ≡ odd fill total }
+{
+    let mut buffer = [0u8; 64];
+    spread(7, 3, &mut buffer);
+    Sm3 {
+        state: [1, 2, 3, 4, 5, 6, 7, 8],
+        buffer,
+        buffer_len: fill,
+        total_len: total,
     }
 }

@@ -1,331 +1,291 @@
-// Opens records step by step and writes every field of the state, and a digest of the whole output, after each step: records
-// that are accepted and refused, states that were tampered with, ended openings and refused starts. The file stdout has the
-// values of a model that was written from the rules, which the script `expected` runs.
+// Opens records step by step and writes every field of the state, and a digest of the whole output, after each step:
+// records that are accepted and refused, states that were tampered with, ended openings and refused starts. The file
+// stdout has the values of a model that was written from the rules, which the script `expected` runs.
 #![tactic(auto)]
 
-ghost use Rattle.std.specs.Prelude.{◌≤◌};
-
-use programs::{hex, label, line, number, spread, text};
-use record::RecordKeysCbc;
-use sm4::Sm4Cipher;
-use std::io;
+use made_records::{NUMBER, TYPE};
+use programs::{Hex, spread};
+use record::{IV_LEN, TLCP_RECORD_VERSION};
+use std::alloc::{AllocError, Global};
+use std::{fmt, io};
 use steps::{OpeningCbc, Stepped};
 
-const NUMBER: u64 = 0x0102_0304_0506_0708;
+// Answer, length, count and every field of the state, in its order, as a line has them.
+#[derive(Clone, Copy)]
+struct Report(Stepped);
 
-const TYPE: u8 = 23;
-
-// Both rows of words, as bytes, and both keys.
-fn secrets(rt: &impl Print, opening: OpeningCbc) -> io::Result<()> {
-    let words = opening.words;
-    let kept = opening.kept;
-    let mac_key = opening.mac_key;
-    let enc_key = opening.enc_key;
-    hex(rt, &sm3::digest_of(words))?;
-    hex(rt, &sm3::digest_of(kept))?;
-    hex(rt, &mac_key)?;
-    hex(rt, &enc_key)
+impl fmt::Display for Report {
+    fn fmt<W: fmt::Write>(&self, f: &mut fmt::Formatter<W>) -> fmt::Result {
+        let s = self.0;
+        let o = s.opening;
+        write!(f, "{} {} {}", s.answer, s.length, s.count)?;
+        write!(
+            f,
+            " {} {}",
+            Hex(&sm3::digest_of(o.words)),
+            Hex(&sm3::digest_of(o.kept))
+        )?;
+        write!(f, " {} {}", Hex(&o.mac_key), Hex(&o.enc_key))?;
+        write!(f, " {} {} {}", o.seq, o.content_type, Hex(&o.version))?;
+        write!(f, " {} {} {} {}", o.n, o.total, o.done, o.held)?;
+        write!(
+            f,
+            " {} {} {}",
+            u8::from(o.pad_ok),
+            u8::from(o.ended),
+            o.answer
+        )
+    }
 }
 
-// Number, type and version.
-fn header_parts(rt: &impl Print, opening: OpeningCbc) -> io::Result<()> {
-    let version = opening.version;
-    number(rt, b" ", opening.seq)?;
-    number(rt, b" ", opening.content_type as u64)?;
-    hex(rt, &version)
+// A record, and an output that it is opened into, under the name that their lines have.
+#[derive(Drop)]
+struct Run<'a> {
+    name: &'a str,
+    record: Vec<u8>,
+    out: Vec<u8>,
 }
 
-// The fields behind them, in the state's order.
-fn progress(rt: &impl Print, opening: OpeningCbc) -> io::Result<()> {
-    number(rt, b" ", opening.n as u64)?;
-    number(rt, b" ", opening.total as u64)?;
-    number(rt, b" ", opening.done as u64)?;
-    number(rt, b" ", opening.held as u64)?;
-    number(rt, b" ", opening.pad_ok as u64)?;
-    number(rt, b" ", opening.ended as u64)?;
-    number(rt, b" ", opening.answer as u64)
-}
+impl Run<'_> {
+    // A line: what a start, as step 0, or step k has found, and the digest of the output.
+    fn report(&self, rt: &impl Print, k: usize, s: Stepped) -> io::Result<OpeningCbc> {
+        println!(rt;
+            "{}-{k} {} {}",
+            self.name,
+            Report(s),
+            Hex(&sm3::hash(&self.out).bytes)
+        )?;
+        Ok(s.opening)
+    }
 
-// The rest of a line: answer, length, count, every field of the state, and the digest of the output.
-fn reported(rt: &impl Print, s: Stepped, out: &[u8]) -> io::Result<()> {
-    let digest = sm3::hash(out).bytes;
-    number(rt, b" ", s.answer as u64)?;
-    number(rt, b" ", s.length as u64)?;
-    number(rt, b" ", s.count as u64)?;
-    secrets(rt, s.opening)?;
-    header_parts(rt, s.opening)?;
-    progress(rt, s.opening)?;
-    line(rt, b"", &digest)
-}
+    fn step(&mut self, rt: &impl Print, k: usize, opening: OpeningCbc) -> io::Result<OpeningCbc> {
+        let s = steps::step_cbc(opening, &self.record, &mut self.out);
+        self.report(rt, k, s)
+    }
 
-fn keys() -> RecordKeysCbc {
-    let mut key_block = [0u8; 128];
-    spread(13, 1, &mut key_block);
-    let h = RecordKeysCbc::client_half(&key_block);
-    h.keys
+    // Steps first to last.
+    fn steps(
+        &mut self,
+        rt: &impl Print,
+        first: usize,
+        last: usize,
+        from: OpeningCbc,
+    ) -> io::Result<OpeningCbc> {
+        let mut opening = from;
+        for k in first..=last {
+            opening = self.step(rt, k, opening)?;
+        }
+        Ok(opening)
+    }
+
+    // The start, with an output that holds a pattern, and the steps up to step last.
+    fn open(&mut self, rt: &impl Print, last: usize) -> io::Result<OpeningCbc> {
+        spread(11, 5, &mut self.out);
+        let s = started(self.record.len(), self.out.len());
+        let opening = self.report(rt, 0, s)?;
+        self.steps(rt, 1, last, opening)
+    }
 }
 
 fn started(record_len: usize, room: usize) -> Stepped {
     steps::start_cbc(
-        keys(),
+        made_records::keys(),
         NUMBER,
         TYPE,
-        record::TLCP_RECORD_VERSION,
+        TLCP_RECORD_VERSION,
         record_len,
         room,
     )
 }
 
-// Byte i of every text is 7 i + 94, and so 7 (i + 13) + 3: the header is laid over what is before it.
-fn cover(len: u16, covered: &mut [u8]) {
-    let header = record::record_header(NUMBER, TYPE, record::TLCP_RECORD_VERSION, len);
-    spread(7, 3, covered);
-    words::copy_at(covered, 0, &header);
-}
-
-// The MAC of a text of len bytes.
-fn mac_of(len: usize) -> [u8; 32]
-    requires { len ≤ 128 }
-{
-    let mut covered = [0u8; 141];
-    cover(len as u16, &mut covered);
-    let mac_key = keys().mac_key;
-    let mac = hmac::hmac_sm3(&mac_key, &covered[..13 + len]);
-    mac.bytes
-}
-
-// A text of len bytes, its MAC and its padding laid into body; then wrong, 0 or 1, bytes from index at on are made 0x5a.
-fn lay_body(len: usize, padlen: u8, at: usize, wrong: usize, body: &mut [u8])
-    requires { len ≤ 128 }
-{
-    let mac = mac_of(len);
-    spread(7, 94, body);
-    words::copy_at(body, len, &mac);
-    words::fill_at(body, len + 32, (padlen as usize) + 1, padlen);
-    words::fill_at(body, at, wrong, 0x5a);
-}
-
-// body enciphered where it stands, and the record of it.
-fn seal(body: &mut [u8], record: &mut [u8]) {
-    let iv = [0xa5u8; 16];
-    let enc_key = keys().enc_key;
-    cbc::encipher_cbc(Sm4Cipher::new(enc_key), iv, body);
-    words::copy_at(record, 0, &iv);
-    words::copy_at(record, 16, body);
-}
-
-// A record of a body of 128 bytes: the text's length, the padding's, and what is wrong in it.
-fn sealed(len: usize, padlen: u8, at: usize, wrong: usize, record: &mut [u8])
-    requires { len ≤ 128 }
-{
-    let mut body = [0u8; 128];
-    lay_body(len, padlen, at, wrong, &mut body);
-    seal(&mut body, record);
-}
-
-// A line: one step.
-fn once(
-    rt: &impl Print,
-    name: &[u8],
-    k: usize,
-    opening: OpeningCbc,
-    record: &[u8],
-    out: &mut [u8],
-) -> io::Result<OpeningCbc> {
-    let s = steps::step_cbc(opening, record, out);
-    text(rt, name)?;
-    number(rt, b"-", k as u64)?;
-    reported(rt, s, out)?;
-    Ok(s.opening)
-}
-
-// The steps behind the first that are done, up to step last, a line each.
-fn run(
-    rt: &impl Print,
-    name: &[u8],
-    from: OpeningCbc,
-    first: usize,
-    last: usize,
-    record: &[u8],
-    out: &mut [u8],
-) -> io::Result<OpeningCbc> {
-    let mut opening = from;
-    for k in first..last {
-        opening = once(rt, name, k + 1, opening, record, out)?;
+// A record of a body of n bytes: the text's length, the padding's, and the byte of the body that is made 0x5a.
+fn made(
+    alloc: Global,
+    n: u8,
+    len: u16,
+    padlen: u8,
+    wrong: Option<u8>,
+) -> Result<Vec<u8>, AllocError> {
+    let mut record = vec![in alloc; 0u8; IV_LEN + usize::from(n)]?;
+    made_records::lay_body(len, padlen, &mut record);
+    if let Some(at) = wrong {
+        words::fill_at(&mut record, IV_LEN + usize::from(at), 1, 0x5a);
     }
-    Ok(opening)
-}
-
-// The start, with an output that holds a pattern, and the steps up to step last.
-fn opened(
-    rt: &impl Print,
-    name: &[u8],
-    last: usize,
-    record: &[u8],
-    out: &mut [u8],
-) -> io::Result<OpeningCbc> {
-    spread(11, 5, out);
-    let s = started(record.len(), out.len());
-    text(rt, name)?;
-    text(rt, b"-0")?;
-    reported(rt, s, out)?;
-    run(rt, name, s.opening, 0, last, record, out)
+    made_records::close(&mut record);
+    Ok(record)
 }
 
 // A body of 48 bytes, accepted.
-fn short(rt: &impl Print) -> io::Result<()> {
-    let mut body = [0u8; 48];
-    let mut r = [0u8; 64];
-    let mut out = [0u8; 50];
-    lay_body(5, 10, 0, 0, &mut body);
-    seal(&mut body, &mut r);
-    opened(rt, b"short", 8, &r, &mut out)?;
+fn short(rt: &impl Print, alloc: Global) -> io::Result<()> {
+    let mut run = Run {
+        name: "short",
+        record: made(alloc, 48, 5, 10, None)?,
+        out: vec![in alloc; 0u8; 50]?,
+    };
+    run.open(rt, 8)?;
     Ok(())
 }
 
-// A body of 128 bytes, opened to its end.
-fn whole(
-    rt: &impl Print,
-    name: &[u8],
-    len: usize,
+// A body of 128 bytes.
+fn long<'a>(
+    alloc: Global,
+    name: &'a str,
+    len: u16,
     padlen: u8,
-    at: usize,
-    wrong: usize,
+    wrong: Option<u8>,
+) -> Result<Run<'a>, AllocError> {
+    let record = made(alloc, 128, len, padlen, wrong)?;
+    let out = vec![in alloc; 0u8; 160]?;
+    Ok(Run { name, record, out })
+}
+
+// That opened to its end.
+fn whole(rt: &impl Print, mut run: Run<'_>) -> io::Result<OpeningCbc> {
+    run.open(rt, 14)
+}
+
+// That with the opening changed before the first step of the MAC, in a way that no rule refuses. Handed back is the
+// opening as it was before.
+fn changed<F: FnOnce(OpeningCbc) -> OpeningCbc>(
+    rt: &impl Print,
+    mut run: Run<'_>,
+    change: F,
 ) -> io::Result<OpeningCbc>
-    requires { len ≤ 128 }
+    requires { F.IsAlwaysCallable change }
 {
-    let mut r = [0u8; 144];
-    let mut out = [0u8; 160];
-    sealed(len, padlen, at, wrong, &mut r);
-    opened(rt, name, 14, &r, &mut out)
+    let opening = run.open(rt, 9)?;
+    run.steps(rt, 10, 14, change(opening))?;
+    Ok(opening)
 }
 
 // A line: a step with a record of zeros and an output, both of these sizes.
 fn sized(
     rt: &impl Print,
-    name: &[u8],
+    alloc: Global,
+    name: &str,
     k: usize,
     opening: OpeningCbc,
     record_len: usize,
     room: usize,
-) -> io::Result<()>
-    requires { (record_len ≤ 160) × (room ≤ 160) }
-{
-    let r = [0u8; 160];
-    let mut out = [0xeeu8; 160];
-    once(rt, name, k, opening, &r[..record_len], &mut out[..room])?;
+) -> io::Result<()> {
+    let mut run = Run {
+        name,
+        record: vec![in alloc; 0u8; record_len]?,
+        out: vec![in alloc; 0xeeu8; room]?,
+    };
+    run.step(rt, k, opening)?;
     Ok(())
 }
 
 // An opening that has ended: answer 8, and 7 before it.
-fn ended(rt: &impl Print, opening: OpeningCbc) -> io::Result<()> {
-    sized(rt, b"ended", 15, opening, 144, 160)?;
-    sized(rt, b"ended-record", 143, opening, 143, 160)?;
-    sized(rt, b"ended-room", 127, opening, 144, 127)?;
-    let mut t = opening;
-    t.done = 14;
-    sized(rt, b"ended-done", 14, t, 144, 160)?;
-    t.held = 96;
-    sized(rt, b"ended-held", 96, t, 144, 160)
-}
-
-// T that is not of n, T or more steps done, and a held length above n - 33.
-fn out_of_range(rt: &impl Print, opening: OpeningCbc) -> io::Result<()> {
-    let mut t = opening;
-    t.total = 13;
-    sized(rt, b"total", 13, t, 144, 160)?;
-    t.total = 15;
-    sized(rt, b"total", 15, t, 144, 160)?;
-    let mut d = opening;
-    d.done = 14;
-    sized(rt, b"done", 14, d, 144, 160)?;
-    d.done = 15;
-    sized(rt, b"done", 15, d, 144, 160)?;
-    let mut h = opening;
-    h.held = 96;
-    sized(rt, b"held", 96, h, 144, 160)
-}
-
-// A length that no body has, with T, a record and an output that would be of it.
-fn other_body(rt: &impl Print, opening: OpeningCbc, n: usize) -> io::Result<()>
-    requires { n ≤ 144 }
-{
-    let mut t = opening;
-    t.n = n;
-    t.total = sizes::total_steps(n);
-    t.held = 0;
-    sized(rt, b"n", n, t, n + 16, n)
-}
-
-// One block above the longest.
-fn too_long(rt: &impl Print, opening: OpeningCbc) -> io::Result<()> {
-    let record = [0u8; 16464];
-    let mut out = [0xeeu8; 16448];
-    let mut t = opening;
-    t.n = 16448;
-    t.total = sizes::total_steps(16448);
-    once(rt, b"n", 16448, t, &record, &mut out)?;
+fn ended(rt: &impl Print, alloc: Global, opening: OpeningCbc) -> io::Result<()> {
+    let done = OpeningCbc {
+        done: 14,
+        ..opening
+    };
+    let held = OpeningCbc { held: 96, ..done };
+    for (name, k, opening, record_len, room) in [
+        ("ended", 15, opening, 144, 160),
+        ("ended-record", 143, opening, 143, 160),
+        ("ended-room", 127, opening, 144, 127),
+        ("ended-done", 14, done, 144, 160),
+        ("ended-held", 96, held, 144, 160),
+    ] {
+        sized(rt, alloc, name, k, opening, record_len, room)?;
+    }
     Ok(())
 }
 
-// Sizes that are not those of the opening.
-fn other_sizes(rt: &impl Print, opening: OpeningCbc) -> io::Result<()> {
-    sized(rt, b"record", 143, opening, 143, 160)?;
-    sized(rt, b"record", 145, opening, 145, 160)?;
-    sized(rt, b"room", 127, opening, 144, 127)?;
-    other_body(rt, opening, 32)?;
-    other_body(rt, opening, 136)?;
-    too_long(rt, opening)
+// T that is not of n, T or more steps done, and a held length above n - 33.
+fn out_of_range(rt: &impl Print, alloc: Global, opening: OpeningCbc) -> io::Result<()> {
+    for total in [13, 15] {
+        let other = OpeningCbc { total, ..opening };
+        sized(rt, alloc, "total", total, other, 144, 160)?;
+    }
+    for done in [14, 15] {
+        let other = OpeningCbc { done, ..opening };
+        sized(rt, alloc, "done", done, other, 144, 160)?;
+    }
+    let held = OpeningCbc {
+        held: 96,
+        ..opening
+    };
+    sized(rt, alloc, "held", 96, held, 144, 160)
 }
 
-// A body of 128 bytes with a wrong byte, held length and padding mark changed before the first step of the MAC, which no rule
-// refuses, and the steps from there on. Handed back is the opening as it was before.
-fn changed(
-    rt: &impl Print,
-    name: &[u8],
-    len: usize,
-    padlen: u8,
-    at: usize,
-    held: usize,
-    pad_ok: bool,
-) -> io::Result<OpeningCbc>
-    requires { len ≤ 128 }
-{
-    let mut r = [0u8; 144];
-    let mut out = [0u8; 160];
-    sealed(len, padlen, at, 1, &mut r);
-    let opening = opened(rt, name, 9, &r, &mut out)?;
-    let mut t = opening;
-    t.held = held;
-    t.pad_ok = pad_ok;
-    run(rt, name, t, 9, 14, &r, &mut out)?;
-    Ok(opening)
+// Sizes that are not those of the opening.
+fn other_sizes(rt: &impl Print, alloc: Global, opening: OpeningCbc) -> io::Result<()> {
+    sized(rt, alloc, "record", 143, opening, 143, 160)?;
+    sized(rt, alloc, "record", 145, opening, 145, 160)?;
+    sized(rt, alloc, "room", 127, opening, 144, 127)
+}
+
+// A length that no body has, with T, a record and an output that would be of it: two short ones, and one block above
+// the longest.
+fn other_bodies(rt: &impl Print, alloc: Global, opening: OpeningCbc) -> io::Result<()> {
+    for (n, held) in [(32u16, 0), (136, 0), (16448, opening.held)] {
+        let other = OpeningCbc {
+            n: usize::from(n),
+            total: sizes::total_steps(usize::from(n)),
+            held,
+            ..opening
+        };
+        sized(rt, alloc, "n", other.n, other, IV_LEN + other.n, other.n)?;
+    }
+    Ok(())
 }
 
 // A start by its sizes, and a step on what it hands back.
-fn start(rt: &impl Print, record_len: usize, room: usize) -> io::Result<()> {
+fn start(rt: &impl Print, alloc: Global, record_len: usize, room: usize) -> io::Result<()> {
     let s = started(record_len, room);
-    label(rt, b"start", record_len, room)?;
-    reported(rt, s, b"")?;
-    sized(rt, b"start-room", room, s.opening, 144, 160)
+    println!(rt;
+        "start-{record_len}-{room} {} {}",
+        Report(s),
+        Hex(&sm3::hash(b"").bytes)
+    )?;
+    sized(rt, alloc, "start-room", room, s.opening, 144, 160)
 }
 
 fn main(rt: HostRuntime) -> io::Result<()> {
-    short(&rt)?;
+    let alloc = rt.alloc();
+    short(&rt, alloc)?;
     // text and what the MAC adds to it are one block, so that the second of the MAC's steps has none
-    ended(&rt, whole(&rt, b"accepted", 42, 53, 0, 0)?)?;
-    whole(&rt, b"padding", 43, 52, 100, 1)?;
-    whole(&rt, b"mac", 95, 0, 126, 1)?;
+    let accepted = whole(&rt, long(alloc, "accepted", 42, 53, None)?)?;
+    ended(&rt, alloc, accepted)?;
+    whole(&rt, long(alloc, "padding", 43, 52, Some(100))?)?;
+    whole(&rt, long(alloc, "mac", 95, 0, Some(126))?)?;
     // put right, and so accepted
-    changed(&rt, b"padding-changed", 43, 52, 100, 43, true)?;
-    let opening = changed(&rt, b"mac-changed", 95, 0, 126, 20, false)?;
-    out_of_range(&rt, opening)?;
-    other_sizes(&rt, opening)?;
-    start(&rt, 63, 160)?;
-    start(&rt, 65, 0)?;
-    start(&rt, 64, 47)?;
-    start(&rt, 64, 48)?;
-    start(&rt, 16448, 16431)?;
-    start(&rt, 16448, 16432)?;
-    start(&rt, 16464, 16448)
+    changed(
+        &rt,
+        long(alloc, "padding-changed", 43, 52, Some(100))?,
+        |o| OpeningCbc {
+            held: 43,
+            pad_ok: true,
+            ..o
+        },
+    )?;
+    let opening = changed(
+        &rt,
+        long(alloc, "mac-changed", 95, 0, Some(126))?,
+        |o| OpeningCbc {
+            held: 20,
+            pad_ok: false,
+            ..o
+        },
+    )?;
+    out_of_range(&rt, alloc, opening)?;
+    other_sizes(&rt, alloc, opening)?;
+    other_bodies(&rt, alloc, opening)?;
+    for (record_len, room) in [
+        (63, 160),
+        (65, 0),
+        (64, 47),
+        (64, 48),
+        (16448, 16431),
+        (16448, 16432),
+        (16464, 16448),
+    ] {
+        start(&rt, alloc, record_len, room)?;
+    }
+    Ok(())
 }

@@ -2,113 +2,88 @@
 // values of other implementations, which the script `expected` gathers and names.
 #![tactic(auto)]
 
-use programs::{hex, label, line, number, spread, text};
-use sm3::{Digest, Sm3};
+use programs::{Hex, State, odd, spread};
+use sm3::Sm3;
 use std::io;
 
-// A line: the digest, behind its name.
-fn digest(rt: &impl Print, name: &[u8], d: Digest) -> io::Result<()> {
-    let bytes = d.bytes;
-    line(rt, name, &bytes)
+// A line: the digest of a message, behind its name.
+fn digest(rt: &impl Print, name: &str, message: &[u8]) -> io::Result<()> {
+    println!(rt; "{name} {}", Hex(&sm3::hash(message).bytes))
 }
 
-// The rest of a line: the words, the buffer, the fill and the total.
-fn state(rt: &impl Print, h: Sm3) -> io::Result<()> {
-    let words = h.state;
-    let buffer = h.buffer;
-    hex(rt, &sm3::digest_of(words))?;
-    hex(rt, &buffer)?;
-    number(rt, b" ", h.buffer_len as u64)?;
-    number(rt, b" ", h.total_len)?;
-    text(rt, b"\n")
-}
-
-// The digest of the pattern's first n bytes, for each length n up to 256.
-fn lengths(rt: &impl Print, ns: &[usize]) -> io::Result<()> {
-    let mut m = [0u8; 512];
+// The digest of the pattern's first n bytes.
+fn bytes(rt: &impl Print, n: u8) -> io::Result<()> {
+    let mut m = [0u8; 256];
     spread(7, 3, &mut m);
-    for k in 0..ns.len() {
-        let n = ns[k] % 257;
-        text(rt, b"bytes")?;
-        number(rt, b"-", n as u64)?;
-        digest(rt, b"", sm3::hash(&m[..n]))?;
-    }
-    Ok(())
+    println!(rt; "bytes-{n} {}", Hex(&sm3::hash(&m[..usize::from(n)]).bytes))
 }
 
-// The state after an update for each size up to 256, with the pattern's bytes in turn: byte i + 256 is byte i.
-fn cut(rt: &impl Print, sizes: &[usize]) -> io::Result<()> {
+// The state after an update of each size, with the pattern's bytes in turn: byte i + 256 is byte i.
+fn cut(rt: &impl Print, sizes: &[u8]) -> io::Result<()> {
     let mut m = [0u8; 512];
     spread(7, 3, &mut m);
     let mut h = Sm3::new();
-    let mut at: usize = 0;
-    text(rt, b"state")?;
-    for k in 0..sizes.len() {
-        let n = sizes[k] % 257;
-        number(rt, b"-", n as u64)?;
-        let u = h.update(&m[at..at + n]);
-        h = u.hasher;
-        at = (at + n) % 256;
+    let mut at = 0u8;
+    print!(rt; "state")?;
+    for &size in sizes {
+        print!(rt; "-{size}")?;
+        let start = usize::from(at);
+        h = h.update(&m[start..start + usize::from(size)]).hasher;
+        at = at.wrapping_add(size);
     }
-    state(rt, h)
+    println!(rt; " {}", State(h))
 }
 
 // A million times the letter a, in updates of 1,000 bytes.
-fn million() -> Digest {
-    let a = [b'a'; 1000];
+fn million(rt: &impl Print) -> io::Result<()> {
     let mut h = Sm3::new();
-    for i in 0..1000usize {
-        let u = h.update(&a);
-        h = u.hasher;
+    for _ in 0..1000 {
+        h = h.update(&[b'a'; 1000]).hasher;
     }
-    h.finalize()
+    println!(rt; "million {}", Hex(&h.finalize().bytes))
 }
 
 // An update and a digest of a state that no message leads to.
-fn odd(rt: &impl Print, fill: usize, total: u64) -> io::Result<()> {
-    let mut buffer = [0u8; 64];
+fn update_and_finalize(rt: &impl Print, fill: usize, total: u64) -> io::Result<()> {
+    let h = odd(fill, total);
     let mut part = [0u8; 10];
-    spread(7, 3, &mut buffer);
     spread(7, 195, &mut part);
-    let h = Sm3 {
-        state: [1, 2, 3, 4, 5, 6, 7, 8],
-        buffer,
-        buffer_len: fill,
-        total_len: total,
-    };
-    label(rt, b"update", fill, total as usize)?;
     let u = h.update(&part);
-    number(rt, b" ", u.answer as u64)?;
-    state(rt, u.hasher)?;
-    label(rt, b"finalize", fill, total as usize)?;
+    println!(rt; "update-{fill}-{total} {} {}", u.answer, State(u.hasher))?;
     let d = h.finalize();
-    number(rt, b" ", d.answer as u64)?;
-    digest(rt, b"", d)
+    println!(rt; "finalize-{fill}-{total} {} {}", d.answer, Hex(&d.bytes))
 }
 
 fn main(rt: HostRuntime) -> io::Result<()> {
-    digest(&rt, b"A.1", sm3::hash(b"abc"))?;
+    digest(&rt, "A.1", b"abc")?;
     digest(
         &rt,
-        b"A.2",
-        sm3::hash(b"abcdabcdabcdabcdabcdabcdabcdabcdabcdabcdabcdabcdabcdabcdabcdabcd"),
+        "A.2",
+        b"abcdabcdabcdabcdabcdabcdabcdabcdabcdabcdabcdabcdabcdabcdabcdabcd",
     )?;
-    digest(&rt, b"empty", sm3::hash(b""))?;
-    lengths(&rt, &[55, 56, 63, 64, 65, 119, 120, 128])?;
-    digest(&rt, b"million", million())?;
-    cut(&rt, &[64])?;
-    cut(&rt, &[1, 63])?;
-    cut(&rt, &[63, 1])?;
-    cut(&rt, &[3, 61, 64])?;
-    cut(&rt, &[10, 54, 100])?;
-    cut(&rt, &[64, 64])?;
-    cut(&rt, &[1, 127])?;
-    cut(&rt, &[130])?;
-    cut(&rt, &[0])?;
-    cut(&rt, &[55, 1, 8])?;
-    cut(&rt, &[20, 20, 20, 20])?;
-    odd(&rt, 64, 64)?;
-    odd(&rt, 18446744073709551615, 5)?;
-    odd(&rt, 5, 18446744073709551613)?;
-    odd(&rt, 60, 7)
+    digest(&rt, "empty", b"")?;
+    for n in [55, 56, 63, 64, 65, 119, 120, 128] {
+        bytes(&rt, n)?;
+    }
+    million(&rt)?;
+    let cuts: [&[u8]; 11] = [
+        &[64],
+        &[1, 63],
+        &[63, 1],
+        &[3, 61, 64],
+        &[10, 54, 100],
+        &[64, 64],
+        &[1, 127],
+        &[130],
+        &[0],
+        &[55, 1, 8],
+        &[20, 20, 20, 20],
+    ];
+    for sizes in cuts {
+        cut(&rt, sizes)?;
+    }
+    for (fill, total) in [(64, 64), (usize::MAX, 5), (5, u64::MAX - 2), (60, 7)] {
+        update_and_finalize(&rt, fill, total)?;
+    }
+    Ok(())
 }

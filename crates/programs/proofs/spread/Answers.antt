@@ -1,5 +1,5 @@
 -- `programs::spread` meets its contract: the byte behind byte i is a step on. Assumes nothing.
-use Rattle.std.proofs.Common.{◌≡◌, ℕ, ◌+◌, ◌%◌, ◌^◌, refl, ◌∙◌, mul-zero, mul-one, mul-add, arith}
+use Rattle.std.proofs.Common.{◌≡◌, ℕ, ◌+◌, ◌%◌, ◌^◌, refl, mul-zero, mul-one, mul-add, arith}
 use Rattle.words.specs.Lists.{table}
 use Rattle.words.proofs.Lists.{table_more}
 use Rattle.programs.specs.Rule.{byte}
@@ -10,13 +10,13 @@ byte_more : (step first i x : ℕ) → x ≡ byte step first i → (x + step) % 
 unfolding byte
 byte_more step first i x e = rw (mul-add step i 1, mul-one step) (omega arith)
 
-pub loop-i-init : goal.loop-i-init
+pub loop-byte-init : goal.loop-byte-init
 unfolding byte table
-loop-i-init c = (rw (mul-zero c.args.step) (omega arith), refl)
+loop-byte-init c = (rw (mul-zero c.args.step) (omega arith), refl)
 
-pub loop-i-preserved : goal.loop-i-preserved
-loop-i-preserved c =
+pub loop-byte-preserved : goal.loop-byte-preserved
+loop-byte-preserved c =
     let a = c.args in
-    let l = c.loop-i in
-    let next = c.wrapping_add_u8-x.ensures.value ∙ byte_more a.step a.first l.i l.x l.invariant.0 in
+    let l = c.loop-byte in
+    let next = byte_more a.step a.first l.byte-index l.x l.invariant.0 in
     (next, table_more _ _ _ _ (omega arith) l.invariant.0 l.invariant.1)

@@ -1,0 +1,3 @@
+pub mod Closed
+pub mod Covered
+pub mod OneOutcome
