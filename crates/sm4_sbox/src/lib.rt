@@ -43,21 +43,6 @@ pub const COUNT: [u8; 256] = [
 
 // The S-box at x: the sum over all entries, of which one counts. The places are read off COUNT, so that only bytes are
 // compared, many at a time.
-<<<<<<< HEAD
-fn select(t: &[u8; 256], n: &[u8; 256], x: u8) -> u8
-    requires { Counts n.now }
-    ensures { result ≡ get_or t.now x 0 }
-{
-    let mut r: u8 = 0;
-    for i in 0..256 {
-        r = r + masks::select(0, t[i], masks::ct_eq(n[i], x));
-    }
-    r
-}
-
-// The S-box at x.
-=======
->>>>>>> b5d940081d68fa4bc9576324540ba318b243a3d2
 pub fn sbox_ct(x: u8) -> u8
     ensures { result ≡ Sbox x }
 {
