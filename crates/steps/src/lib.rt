@@ -5,13 +5,14 @@
 #![tactic(auto)]
 
 ghost use Rattle.std.specs.Prelude.{false, not, ◌&&◌, [], ◌≡◌, ◌+◌, ◌-◌, ◌/◌, ◌≤◌, ◌<◌, leb, ltb, length};
+ghost use Rattle.answers.specs.Answers.{number, number_of};
 ghost use Rattle.record.specs.Limits.{iv_len};
 ghost use Rattle.steps.specs.Promise.{Step};
 ghost use Rattle.steps.specs.State.{started, ended_with, start_answer, report};
 ghost use Rattle.steps.specs.Step.{broken, changed, report_by, output_by};
 ghost use Rattle.steps.specs.Work.{work_at};
 
-use answers::{BAD_STATE, DONE, ENDED, NO_ROOM};
+use answers::{DONE, Refusal};
 use mac_blocks::MacWords;
 use record::{IV_LEN, MAC_LEN, RecordKeysCbc};
 use sm4::Sm4Cipher;
@@ -72,28 +73,26 @@ fn ended_with(n: usize, total: usize, ended: bool, answer: u8) -> OpeningCbc
 }
 
 // A refusal: the opening as given, no text and no step.
-fn refusal(opening: OpeningCbc, answer: u8) -> Stepped
-    ensures { result ≡ report opening answer 0 0 }
+fn refusal(opening: OpeningCbc, why: Refusal) -> Stepped
+    ensures { result ≡ report opening (number why) 0 0 }
 {
     Stepped {
         opening,
-        answer,
+        answer: why.number(),
         length: 0,
         count: 0,
     }
 }
 
-// The size answer, then 2 where the output is shorter than the body: a number, as the reports have it.
-fn start_answer(record_len: usize, room: usize) -> u8
-    ensures { result ≡ start_answer record_len room }
+// The size answer, then 2 where the output is shorter than the body.
+fn start_answer(record_len: usize, room: usize) -> Result<(), Refusal>
+    ensures { number_of result ≡ start_answer record_len room }
 {
-    if let Err(why) = sizes::size_answer(record_len) {
-        return why.number();
-    }
+    sizes::size_answer(record_len)?;
     if room < record_len - IV_LEN {
-        return NO_ROOM;
+        return Err(Refusal::NoRoom);
     }
-    DONE
+    Ok(())
 }
 
 // An opening of a record of record_len bytes into an output of room bytes; no byte of either is read. A refusal (3, 4, 5, then
@@ -110,10 +109,9 @@ pub fn start_cbc(
 ) -> Stepped
     ensures { result ≡ started keys seq content_type version record_len room }
 {
-    let answer = start_answer(record_len, room);
-    let zero = ended_with(0, 0, false, 0);
-    if answer != DONE {
-        return refusal(zero, answer);
+    let zero = ended_with(0, 0, false, DONE);
+    if let Err(why) = start_answer(record_len, room) {
+        return refusal(zero, why);
     }
     let RecordKeysCbc { mac_key, enc_key } = keys;
     let n = record_len - IV_LEN;
@@ -330,10 +328,10 @@ pub fn step_cbc(opening: OpeningCbc, record: &[u8], out: &mut [u8]) -> Stepped
     ensures { Step opening «record».now out.old result out.new }
 {
     if is_broken(opening, record.len(), out.len()) {
-        return refusal(opening, BAD_STATE);
+        return refusal(opening, Refusal::BadState);
     }
     if opening.ended {
-        return refusal(opening, ENDED);
+        return refusal(opening, Refusal::Ended);
     }
     Live { opening }.work(record, out)
 }
