@@ -18,8 +18,8 @@ use arrayvec::ArrayString;
 use itoa::Buffer;
 use record::IV_LEN;
 
-// A line so far: how many characters, counted no further than a usize goes, and whether each is a lower-case digit. The mark
-// goes with every count: a line over the limit is `long` whatever it holds.
+// A line so far: how many characters, counted no further than a usize goes, and whether each is a lower-case digit.
+// The count is kept beside a mark that says no: a line over the limit is `long`, whatever it holds.
 #[derive(Clone, Copy, Debug, PartialEq, Eq)]
 pub struct Line {
     pub count: usize,
