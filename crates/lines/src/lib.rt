@@ -18,8 +18,8 @@ use arrayvec::ArrayString;
 use itoa::Buffer;
 use record::IV_LEN;
 
-// A line so far: how many characters, counted no further than a usize goes, and whether each is a lower-case digit. The mark
-// goes with every count: a line over the limit is `long` whatever it holds.
+// A line so far: how many characters, counted no further than a usize goes, and whether each is a lower-case digit.
+// The count is kept beside a mark that says no: a line over the limit is `long`, whatever it holds.
 #[derive(Clone, Copy, Debug, PartialEq, Eq)]
 pub struct Line {
     pub count: usize,
@@ -201,6 +201,7 @@ fn text_of(judged: Judged) -> ArrayString<MOST_TEXT>
 
 // The text of a judgement, laid over out from index at on, as much of it as there is room for; and how many bytes it is
 // long.
+// An index, and no part of out: at may stand behind its end, where nothing is laid.
 pub fn put_judged(judged: Judged, out: &mut [u8], at: usize) -> usize
     ensures { JudgedPut judged out.old at result out.new }
 {
@@ -210,6 +211,7 @@ pub fn put_judged(judged: Judged, out: &mut [u8], at: usize) -> usize
 }
 
 // What telling of a part of the input leaves: the line begun, and how many bytes of the output are written.
+// A length, since the bytes stand in the output that the caller lends: the library has no heap.
 #[derive(Clone, Copy, Debug, PartialEq, Eq)]
 pub struct Told {
     pub line: Line,
