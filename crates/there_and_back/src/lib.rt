@@ -4,7 +4,6 @@
 
 ghost use Rattle.there_and_back.specs.Promise.{ThereAndBack};
 
-use answers::DONE;
 use opening::Opened;
 use record::RecordKeysCbc;
 
@@ -25,19 +24,19 @@ pub fn seal_and_open(
     ensures { ThereAndBack keys seq content_type version iv plaintext.now «record».old out.old result «record».new out.new }
 {
     let sealed = record::protect_cbc(keys, seq, content_type, version, iv, plaintext, record);
-    if sealed.answer != DONE {
-        return Opened {
-            answer: sealed.answer,
+    match sealed {
+        Ok(length) => opening::deprotect_cbc(
+            keys,
+            seq,
+            content_type,
+            version,
+            &record[..length],
+            out,
+        ),
+        Err(why) => Opened {
+            answer: why.number(),
             length: 0,
             count: 0,
-        };
+        },
     }
-    opening::deprotect_cbc(
-        keys,
-        seq,
-        content_type,
-        version,
-        &record[..sealed.length],
-        out,
-    )
 }

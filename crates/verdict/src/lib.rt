@@ -7,7 +7,7 @@ ghost use Rattle.std.specs.Prelude.{cond, ◌≡◌, ◌%◌, eqb};
 ghost use Rattle.verdict.specs.Promise.{Cleared};
 ghost use Rattle.verdict.specs.Verdict.{extracted, verdict_of};
 
-use answers::{BAD_RECORD, DONE};
+use answers::{DONE, Refusal};
 use record::MAC_LEN;
 
 // An answer with a length beside it and no Option: either is chosen by masks, and nothing branches on which of them it is.
@@ -52,7 +52,7 @@ pub fn verdict_ct(
 {
     // both tests as numbers, so that neither is left out where the other fails
     let ok = (pad_ok as u8) & hmac::ct_eq(received, computed);
-    let answer = masks::select(BAD_RECORD, DONE, ok);
+    let answer = masks::select(Refusal::BadRecord.number(), DONE, ok);
     let length = masks::select(0, held, ok);
     Verdict { answer, length }
 }

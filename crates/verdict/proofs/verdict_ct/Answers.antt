@@ -26,5 +26,5 @@ pub returns : goal.returns
 unfolding verdict_of
 returns c =
     let a = c.args in
-    rw (c.select-length.ensures, c.select-answer.ensures, c.ct_eq.ensures)
+    rw (c.select-length.ensures, c.select-answer.ensures, c.number.ensures, c.ct_eq.ensures)
     (merged a.pad_ok (agree a.received a.computed) a.held)
