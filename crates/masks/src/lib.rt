@@ -1,5 +1,5 @@
-// What the Rust takes from the crate `subtle`: comparisons as numbers 0 or 1, and selects by a mask made of one. No branch on what is
-// compared or selected. Definitions and laws in words.
+// What the Rust takes from the crate `subtle`: comparisons as numbers 0 or 1, and selects by a mask made of one, each
+// over every type that has the `Bits` of words. No branch on what is compared or selected. Definitions and laws in words.
 #![tactic(auto)]
 
 ghost use Rattle.std.specs.Prelude.{◌≡◌, eqb, ltb};
@@ -30,7 +30,8 @@ pub fn ct_is_zero_usize(d: usize) -> u8
     ((0x2_0000_0000 - halves) >> 33) as u8
 }
 
-// a where the lowest bit of choice is 0, b where it is 1: the bits in which they differ are put on a, or none, and no branch.
+// a where the lowest bit of choice is 0, b where it is 1: the bits in which they differ are put on a, or none, and no
+// branch.
 pub fn select<T: Bits>(a: T, b: T, choice: u8) -> T
     ensures { result ≡ chosen choice a b }
 {

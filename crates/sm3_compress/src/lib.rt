@@ -80,15 +80,11 @@ fn next(w: &[u32; 68], j: usize) -> u32
     requires { (16 ≤ j) × (j < 68) }
     ensures { result ≡ recurrence w.now j }
 {
-    let w16 = w[j - 16];
-    let w9 = w[j - 9];
-    let w3 = w[j - 3];
-    let w13 = w[j - 13];
-    let w6 = w[j - 6];
-    p1(w16 ^ w9 ^ rotate_left(w3, 15)) ^ rotate_left(w13, 7) ^ w6
+    p1(w[j - 16] ^ w[j - 9] ^ rotate_left(w[j - 3], 15)) ^ rotate_left(w[j - 13], 7) ^ w[j - 6]
 }
 
-// W_0 to W_67.
+// W_0 to W_67. j is counted by hand: each word is made of those before it in the same array, and no iterator lends them
+// beside it.
 fn expand(block: &[u8; 64]) -> [u32; 68]
     ensures { result ≡ W block.now }
 {

@@ -8,7 +8,8 @@ ghost use Rattle.words.specs.Lists.{zip_with};
 ghost use Rattle.words.specs.Word.{◌⋘◌};
 ghost use Rattle.words.specs.Promise.{Copied, Filled};
 
-// What `xor_each`, and `select` and `ct_eq` of masks, need of a type.
+// What `xor_each`, and `select` and `ct_eq` of masks, need of a type. `xor` is not the library's `BitXor`, which says what
+// it gives by a relation: the contract of `xor_each` is an equation, and needs a function.
 pub trait Bits: Copy + Ord {
     ghost none: { Self };
 
@@ -67,7 +68,7 @@ impl Bits for usize {
     }
 }
 
-// Each element of a with that of b.
+// Each element of a with that of b. By the index of one: after a `zip` of `iter_mut` nothing is known of what was written.
 pub fn xor_each<T: Bits, const N: usize>(a: [T; N], b: [T; N]) -> [T; N]
     ensures { result ≡ zip_with T.xored a b }
 {
