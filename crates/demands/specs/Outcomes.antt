@@ -159,7 +159,7 @@ pub record Outcomes : Type 1 where
   pub «record::protect_cbc» : (keys : RecordKeysCbc) (seq content_type : ℕ) (version iv plaintext out : List ℕ)
       → Two (λ r. Protected keys seq content_type version iv plaintext out (reported r))
   -- sizes
-  pub «sizes::size_answer» : (record_len : ℕ) → Equation (size_answer record_len)
+  pub «sizes::size_answer» : (record_len : ℕ) → Reading number_of (size_answer record_len)
   pub «sizes::allowed» : (n : ℕ) → Equation (allowedBody n)
   pub «sizes::mac_steps» : (n : ℕ) → Equation (mac_steps n)
   pub «sizes::total_steps» : (n : ℕ) → Equation (total_steps n)
