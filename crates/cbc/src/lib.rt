@@ -21,11 +21,7 @@ fn block_at(data: &[u8], at: usize) -> [u8; 16]
 fn xor_blocks(a: [u8; 16], b: [u8; 16]) -> [u8; 16]
     ensures { result ≡ xor_each a b }
 {
-    let mut out = [0u8; 16];
-    for i in 0..16 {
-        out[i] = a[i] ^ b[i];
-    }
-    out
+    words::xor_each(a, b)
 }
 
 // The whole blocks of body enciphered in place; the last (length mod 16) bytes stay as found. By the number of the
