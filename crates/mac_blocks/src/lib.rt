@@ -149,7 +149,8 @@ impl<'a> Message<'a> {
     }
 }
 
-// words where the lowest bit of choice is 1, else kept: all eight by one mask.
+// words where the lowest bit of choice is 1, else kept: all eight by one mask. `copy_where` of verdict does so with bytes: one function
+// for both would lend across crates, with a promise, a law and wrong programs of its own, for a loop of one line.
 fn keep(kept: &mut [u32; 8], words: &[u32; 8], choice: u8)
     ensures { kept.new ≡ cond (eqb (choice % 2) 1) words.now kept.old }
 {

@@ -11,7 +11,8 @@ use answers::{Refusal, number_of};
 use hmac::HmacSm3;
 use sm3::DIGEST_SIZE;
 
-// The bytes into out, if it has room for just them.
+// The bytes into out, if it has room for just them: as in border, which is no part of this; one function for both would need a crate
+// with a promise and a law for five lines.
 #[tactic(auto, unfolding(crate::specs::Probes::answer_for, crate::specs::Probes::sized, crate::specs::Probes::filled))]
 fn put_tag(out: &mut [u8], bytes: [u8; DIGEST_SIZE]) -> Result<(), Refusal>
     ensures answers { number_of result ≡ answer_for (sized out.old) }

@@ -114,9 +114,8 @@ pub fn digest_of(v: [u32; 8]) -> [u8; DIGEST_SIZE]
     ensures { result ≡ bytes_of v }
 {
     let mut out = [0u8; DIGEST_SIZE];
-    for i in 0..8 {
-        let bytes = big_endian::u32_to_be_bytes(v[i]);
-        words::copy_at(&mut out, i * 4, &bytes);
+    for (i, word) in v.iter().enumerate() {
+        words::copy_at(&mut out, i * 4, &big_endian::u32_to_be_bytes(*word));
     }
     out
 }

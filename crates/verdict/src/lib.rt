@@ -17,7 +17,8 @@ pub struct Verdict {
     pub length: usize,
 }
 
-// part where the lowest bit of hit is 1, else out: each byte is read and written either way.
+// part where the lowest bit of hit is 1, else out: each byte is read and written either way. By the place, since nothing is known of what
+// a zip with `iter_mut` leaves; `keep` of mac_blocks says why its like stands there.
 fn copy_where(out: &mut [u8; MAC_LEN], part: &[u8; MAC_LEN], hit: u8)
     ensures { out.new ≡ cond (eqb (hit % 2) 1) part.now out.old }
 {

@@ -21,7 +21,7 @@ loop-i-preserved c =
       ap length e ∙ length-put _ _ _ ∙ l.invariant.1,
       rw (add-one l.i)
           (e
-          ∙ ap₂ (put (l.i * 4)) c.u32_to_be_bytes-bytes.ensures l.invariant.2
+          ∙ ap₂ (put (l.i * 4)) c.u32_to_be_bytes.ensures l.invariant.2
           ∙ put_join 4 (word_bytes v) l.i (replicate 32 0) (λ k b. length-be 4 (get_or v k 0)) (omega arith)),
     )
 

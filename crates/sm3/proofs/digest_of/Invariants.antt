@@ -6,7 +6,7 @@ use Rattle.sm3.specs.Standard.{word_bytes}
 use Rattle.sm3.proofs.digest_of.Given as goal
 
 abbrev pub invariant-loop-i : goal.invariant-loop-i
-invariant-loop-i l = (l.i ≤ 8) × (length l.out ≡ 32) × (l.out ≡ join l.i (word_bytes l.v) ++ drop (l.i * 4) l.initial.out)
+invariant-loop-i l = (l.i ≤ 8) × (length l.out ≡ 32) × (l.out ≡ join l.i (word_bytes l.fn.v) ++ drop (l.i * 4) l.initial.out)
 
 abbrev pub decreases-loop-i : goal.decreases-loop-i
 decreases-loop-i l = 8 - l.i
