@@ -119,8 +119,9 @@ pub record Outcomes : Type 1 where
   pub «sm3::hash» : (message : List ℕ) → Equation (hashed message).bytes
   -- sm3_lent
   pub «sm3_lent::start» : One Started
-  pub «sm3_lent::update» : (h : Sm3) («data» : List ℕ) → Two (λ r. Taken h «data» (number_of r))
-  pub «sm3_lent::finish» : (h : Sm3) (digest : List ℕ) → Two (λ r. Digested h digest (number_of r))
+  pub «sm3_lent::update» : (h : Sm3) («data» : List ℕ) → Two (λ (r : Result Unit Refusal). Taken h «data» (number_of r))
+  pub «sm3_lent::finish» : (h : Sm3) (digest : List ℕ)
+      → Two (λ (r : Result Unit Refusal). Digested h digest (number_of r))
   pub «sm3_lent::hash_two» : (first second : List ℕ) → Equation (hashed (first ++ second)).bytes
   -- sm4_sbox
   pub «sm4_sbox::sbox_ct» : (x : ℕ) → Equation (Sbox x)
@@ -144,11 +145,11 @@ pub record Outcomes : Type 1 where
   pub «hmac::hmac_sm3» : (key message : List ℕ) → Equation (mac key message).bytes
   -- key_schedule
   pub «key_schedule::derive_master_secret» : (pre_master client_random server_random out : List ℕ)
-      → Two (λ r. MasterSecret pre_master client_random server_random out (number_of r))
+      → Two (λ (r : Result Unit Refusal). MasterSecret pre_master client_random server_random out (number_of r))
   pub «key_schedule::derive_key_block» : (master_secret client_random server_random out : List ℕ)
-      → Two (λ r. KeyBlock master_secret client_random server_random out (number_of r))
+      → Two (λ (r : Result Unit Refusal). KeyBlock master_secret client_random server_random out (number_of r))
   pub «key_schedule::finished_verify_data» : (master_secret : List ℕ) (role : TlcpRole) (transcript_hash out : List ℕ)
-      → Two (λ r. Finished master_secret role transcript_hash out (number_of r))
+      → Two (λ (r : Result Unit Refusal). Finished master_secret role transcript_hash out (number_of r))
   -- record
   pub «record::RecordKeysCbc::client_half» : (key_block : List ℕ) → Reading half_by (halved_by client_keys key_block)
   pub «record::RecordKeysCbc::server_half» : (key_block : List ℕ) → Reading half_by (halved_by server_keys key_block)
@@ -159,7 +160,7 @@ pub record Outcomes : Type 1 where
   pub «record::protect_cbc» : (keys : RecordKeysCbc) (seq content_type : ℕ) (version iv plaintext out : List ℕ)
       → Two (λ r. Protected keys seq content_type version iv plaintext out (reported r))
   -- sizes
-  pub «sizes::size_answer» : (record_len : ℕ) → Reading number_of (size_answer record_len)
+  pub «sizes::size_answer» : (record_len : ℕ) → Reading {R = Result Unit Refusal} number_of (size_answer record_len)
   pub «sizes::allowed» : (n : ℕ) → Equation (allowedBody n)
   pub «sizes::mac_steps» : (n : ℕ) → Equation (mac_steps n)
   pub «sizes::total_steps» : (n : ℕ) → Equation (total_steps n)
