@@ -9,7 +9,6 @@ use Rattle.record.specs.Limits.{iv_len, mac_len}
 use Rattle.record.specs.Standard.{sealed_length}
 use Rattle.sizes.specs.Sizes.{total_steps}
 use Rattle.opening.specs.declared.Opened.{Opened}
-use Rattle.opening.specs.Given.{size}
 use Rattle.border.specs.Border.{keys_from, given_from, role_of}
 use Rattle.border.specs.Promise.{SealedFor, OpenedFor}
 use Rattle.demands.specs.Checks.{Sealable, Openable}

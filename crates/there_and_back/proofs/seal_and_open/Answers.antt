@@ -9,13 +9,13 @@ use Rattle.there_and_back.proofs.Back.{not-sealed, sealed-within, length_cut, se
 use Rattle.there_and_back.proofs.seal_and_open.Goals as goal
 
 pub returns-in-Err : goal.returns-in-Err
-returns-in-Err c = not-sealed (rw c.in-Err.is at c.protect_cbc-sealed.ensures) _ (number-some c.in-Err.why)
+returns-in-Err c = rw c.number.ensures (not-sealed (rw c.in-Err.is at c.protect_cbc-sealed.ensures) _ (number-some c.in-Err.why))
 
 pub slice_bounds-deprotect_cbc-end : goal.slice_bounds-deprotect_cbc-end
 slice_bounds-deprotect_cbc-end c = sealed-within (rw c.in-Ok.is at c.protect_cbc-sealed.ensures) refl
 
-pub slice_bounds-deprotect_cbc-end-2 : goal.slice_bounds-deprotect_cbc-end-2
-slice_bounds-deprotect_cbc-end-2 c = length_cut (rw c.in-Ok.is at c.protect_cbc-sealed.ensures) refl
+pub slice_bounds-deprotect_cbc-end-in-Ok : goal.slice_bounds-deprotect_cbc-end-in-Ok
+slice_bounds-deprotect_cbc-end-in-Ok c = length_cut (rw c.in-Ok.is at c.protect_cbc-sealed.ensures) refl
 
 -- the IV is a block and the text is bytes, by their types
 pub returns-in-Ok : goal.returns-in-Ok
