@@ -3,18 +3,19 @@
 // names.
 #![tactic(auto)]
 
-use hmac::{HmacSm3, Verified};
+use answers::{Refusal, number_of};
+use hmac::HmacSm3;
 use programs::{Hex, State, odd, spread};
 use std::{fmt, io};
 
-// What `verify` says of a MAC, as a line has it.
+// What `verify` says of a MAC, as a line has it: a refusal is its number and no.
 #[derive(Clone, Copy)]
-struct Verdict(Verified);
+struct Verdict(Result<bool, Refusal>);
 
 impl fmt::Display for Verdict {
     fn fmt<W: fmt::Write>(&self, f: &mut fmt::Formatter<W>) -> fmt::Result {
-        let word = if self.0.matches { "yes" } else { "no" };
-        write!(f, "{} {word}", self.0.answer)
+        let word = if self.0.unwrap_or(false) { "yes" } else { "no" };
+        write!(f, "{} {word}", number_of(self.0))
     }
 }
 
@@ -41,7 +42,7 @@ fn published(rt: &impl Print) -> io::Result<()> {
         ("D.3-4", b"Jefe", b"what do ya want for nothing?"),
     ];
     for (name, key, message) in cases {
-        println!(rt; "{name} {}", Hex(&hmac::hmac_sm3(key, message).bytes))?;
+        println!(rt; "{name} {}", Hex(&hmac::hmac_sm3(key, message)))?;
     }
     Ok(())
 }
@@ -49,13 +50,13 @@ fn published(rt: &impl Print) -> io::Result<()> {
 // A MAC in one call, and in two updates cut in the middle.
 fn both(rt: &impl Print, key: &[u8], message: &[u8]) -> io::Result<()> {
     let (k, n) = (key.len(), message.len());
-    println!(rt;
-        "whole-{k}-{n} {}",
-        Hex(&hmac::hmac_sm3(key, message).bytes)
-    )?;
+    println!(rt; "whole-{k}-{n} {}", Hex(&hmac::hmac_sm3(key, message)))?;
     let (first, second) = message.split_at(n / 2);
-    let mac = HmacSm3::new(key).mac.update(first).mac.update(second).mac;
-    println!(rt; "cut-{k}-{n} {}", Hex(&mac.finalize().bytes))
+    let mut mac = HmacSm3::new(key);
+    for part in [first, second] {
+        mac = mac.update(part).unwrap_or(mac);
+    }
+    println!(rt; "cut-{k}-{n} {}", Hex(&mac.finalize().unwrap_or([0; 32])))
 }
 
 // The first bytes of one pattern as a key, and those of another as a message.
@@ -79,28 +80,34 @@ fn verified(rt: &impl Print, at: usize, flip: u8) -> io::Result<()> {
     if let Some(byte) = mac.get_mut(at) {
         *byte ^= flip;
     }
-    let m = HmacSm3::new(b"Jefe")
-        .mac
-        .update(b"what do ya want for nothing?")
-        .mac;
-    println!(rt; "verify-{at}-{flip} {}", Verdict(m.verify(mac)))
+    let m = HmacSm3::new(b"Jefe").update(b"what do ya want for nothing?");
+    println!(rt;
+        "verify-{at}-{flip} {}",
+        Verdict(m.and_then(|m| m.verify(mac)))
+    )
 }
 
-// An update, a digest and a verdict of a state that is refused. The MAC to verify is the digest's zeros.
+// An update, a digest and a verdict of a state that is refused. Behind its number an update has the state as given, a
+// digest zeros. The MAC to verify is those zeros.
 fn refused(rt: &impl Print, inner: usize, outer: usize) -> io::Result<()> {
     let m = HmacSm3 {
         inner: odd(inner, 64),
         outer: odd(outer, 64),
     };
     let u = m.update(b"Hi There");
+    let after = u.unwrap_or(m);
     println!(rt;
         "update-{inner}-{outer} {} {} {}",
-        u.answer,
-        State(u.mac.inner),
-        State(u.mac.outer)
+        number_of(u),
+        State(after.inner),
+        State(after.outer)
     )?;
     let d = m.finalize();
-    println!(rt; "finalize-{inner}-{outer} {} {}", d.answer, Hex(&d.bytes))?;
+    println!(rt;
+        "finalize-{inner}-{outer} {} {}",
+        number_of(d),
+        Hex(&d.unwrap_or([0; 32]))
+    )?;
     println!(rt; "refused-{inner}-{outer} {}", Verdict(m.verify([0; 32])))
 }
 

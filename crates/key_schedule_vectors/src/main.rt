@@ -2,6 +2,7 @@
 // output, one line each. The file stdout has the values of OpenSSL, which the script `expected` gathers.
 #![tactic(auto)]
 
+use answers::{Refusal, number_of};
 use key_schedule::TlcpRole;
 use programs::{Hex, spread};
 use std::alloc::{AllocError, Global};
@@ -26,8 +27,14 @@ impl fmt::Display for Derivation {
 }
 
 impl Derivation {
-    // The answer. A Finished message has no second part.
-    fn derive(self, secret: &[u8], first: &[u8], second: &[u8], out: &mut [u8]) -> u8 {
+    // A Finished message has no second part.
+    fn derive(
+        self,
+        secret: &[u8],
+        first: &[u8],
+        second: &[u8],
+        out: &mut [u8],
+    ) -> Result<(), Refusal> {
         match self {
             Derivation::MasterSecret => {
                 key_schedule::derive_master_secret(secret, first, second, out)
@@ -61,7 +68,7 @@ fn run(
     let first = pattern(alloc, 11, 2, b)?;
     let second = pattern(alloc, 11, 3, c)?;
     let mut out = pattern(alloc, 7, 3, n)?;
-    let answer = derivation.derive(&secret, &first, &second, &mut out);
+    let answer = number_of(derivation.derive(&secret, &first, &second, &mut out));
     print!(rt; "{derivation}-{a}-{b}-{c}-{n} {answer} ")?;
     if out.is_empty() {
         println!(rt; "-")

@@ -21,7 +21,7 @@ pub fn keys() -> RecordKeysCbc
 {
     let mut key_block = [0u8; 128];
     spread(13, 1, &mut key_block);
-    RecordKeysCbc::client_half(&key_block).keys
+    RecordKeysCbc::client_half(&key_block).unwrap()
 }
 
 // A text of len bytes, its MAC, and padding as far as there is room, laid behind the place of the IV. A record that has
@@ -37,7 +37,7 @@ pub fn lay_body(len: u16, padlen: u8, record: &mut [u8])
     spread(7, 238, record);
     let header = record::record_header(NUMBER, TYPE, TLCP_RECORD_VERSION, len);
     words::copy_at(record, 3, &header);
-    let mac = hmac::hmac_sm3(&keys().mac_key, &record[3..end]).bytes;
+    let mac = hmac::hmac_sm3(&keys().mac_key, &record[3..end]);
     words::copy_at(record, end, &mac);
     words::fill_at(record, end + MAC_LEN, usize::from(padlen) + 1, padlen);
 }

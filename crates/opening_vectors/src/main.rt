@@ -70,7 +70,7 @@ impl Case {
             o.answer,
             o.length,
             o.count,
-            Hex(&sm3::hash(&out).bytes)
+            Hex(&sm3::hash(&out))
         )
     }
 }

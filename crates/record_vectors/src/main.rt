@@ -3,18 +3,25 @@
 // gathers.
 #![tactic(auto)]
 
+use answers::number_of;
 use key_schedule::TlcpRole;
 use programs::{Hex, spread};
 use record::{RecordKeysCbc, TLCP_RECORD_VERSION};
 use std::alloc::Global;
 use std::io;
 
+// What stands for the keys of a half that is refused.
+const NO_KEYS: RecordKeysCbc = RecordKeysCbc {
+    mac_key: [0; 32],
+    enc_key: [0; 16],
+};
+
 // The halves of the pattern's first n bytes, by name and by role: a line each has the answer and the keys.
 fn halves(rt: &impl Print, n: u8) -> io::Result<()> {
     let mut m = [0u8; 256];
     spread(7, 3, &mut m);
     let key_block = &m[..usize::from(n)];
-    for (name, h) in [
+    for (name, half) in [
         ("client", RecordKeysCbc::client_half(key_block)),
         ("server", RecordKeysCbc::server_half(key_block)),
         (
@@ -26,29 +33,30 @@ fn halves(rt: &impl Print, n: u8) -> io::Result<()> {
             RecordKeysCbc::from_key_block(TlcpRole::Server, key_block),
         ),
     ] {
+        let keys = half.unwrap_or(NO_KEYS);
         println!(rt;
             "{name}-{n} {} {} {}",
-            h.answer,
-            Hex(&h.keys.mac_key),
-            Hex(&h.keys.enc_key)
+            number_of(half),
+            Hex(&keys.mac_key),
+            Hex(&keys.enc_key)
         )?;
     }
     Ok(())
 }
 
 // A line: the pattern's first n bytes sealed under the keys of a role, into room bytes that held 0xee before. Its first
-// 128 bytes are the key block. The lengths of both, the answer, the reported length, and all of out afterwards, or its
-// digest where it is long.
+// 128 bytes are the key block. The lengths of both, the answer, the record's length or 0, and all of out afterwards, or
+// its digest where it is long.
 fn seal(rt: &impl Print, alloc: Global, role: TlcpRole, n: usize, room: usize) -> io::Result<()> {
     let mut key_block = [0u8; 128];
     spread(7, 3, &mut key_block);
-    let keys = RecordKeysCbc::from_key_block(role, &key_block).keys;
+    let keys = RecordKeysCbc::from_key_block(role, &key_block).unwrap_or(NO_KEYS);
     let mut iv = [0u8; 16];
     spread(15, 15, &mut iv);
     let mut plaintext = vec![in alloc; 0u8; n]?;
     spread(7, 3, &mut plaintext);
     let mut out = vec![in alloc; 0xeeu8; room]?;
-    let s = record::protect_cbc(
+    let sealed = record::protect_cbc(
         keys,
         0x0102_0304_0506_0708,
         23,
@@ -57,11 +65,15 @@ fn seal(rt: &impl Print, alloc: Global, role: TlcpRole, n: usize, room: usize) -
         &plaintext,
         &mut out,
     );
-    print!(rt; "seal-{n}-{room} {} {} ", s.answer, s.length)?;
+    print!(rt;
+        "seal-{n}-{room} {} {} ",
+        number_of(sealed),
+        sealed.unwrap_or(0)
+    )?;
     if room <= 96 {
         println!(rt; "{}", Hex(&out))
     } else {
-        println!(rt; "{}", Hex(&sm3::hash(&out).bytes))
+        println!(rt; "{}", Hex(&sm3::hash(&out)))
     }
 }
 

@@ -3,16 +3,21 @@
 // over 4,096 characters or of another command is answered `bad`.
 #![tactic(auto)]
 
+ghost use Rattle.std.specs.Prelude.{◌≡◌, length};
+
 mod answer;
 mod command;
+mod input;
 
 use answer::{Answer, Outcome};
+use answers::{Refusal, number_of};
 use command::Command;
 use hmac::HmacSm3;
+use input::UntilFailure;
 use key_schedule::TlcpRole;
 use protocol::{count, decode, is_word, number_at};
 use record::RecordKeysCbc;
-use sm3::{Digest, Sm3};
+use sm3::Sm3;
 use sm4::Sm4Cipher;
 use std::alloc::{AllocError, Global};
 use std::io;
@@ -26,12 +31,12 @@ fn run(alloc: Global, line: &[u8]) -> Result<Answer, AllocError> {
     match command {
         Command::Seal => Ok(Answer::Sealed(seal(alloc, line)?)),
         Command::Open => Ok(Answer::Opened(open(alloc, line)?)),
-        Command::Sm3 => digest(alloc, sm3::hash(&bytes(alloc, line, 1)?)),
+        Command::Sm3 => derived(alloc, &sm3::hash(&bytes(alloc, line, 1)?)),
         Command::Sm3Parts => digest(alloc, hash_parts(alloc, line)?.finalize()),
         Command::Sm3State => Ok(Answer::State(hash_parts(alloc, line)?)),
-        Command::Hmac => digest(
+        Command::Hmac => derived(
             alloc,
-            hmac::hmac_sm3(&bytes(alloc, line, 1)?, &bytes(alloc, line, 2)?),
+            &hmac::hmac_sm3(&bytes(alloc, line, 1)?, &bytes(alloc, line, 2)?),
         ),
         Command::HmacParts => digest(alloc, mac_parts(alloc, line)?.finalize()),
         Command::Enc => derived(
@@ -59,7 +64,9 @@ fn bytes(alloc: Global, line: &[u8], k: usize) -> Result<Vec<u8>, AllocError> {
 }
 
 // The bytes of field k, which has N.
-fn array<const N: usize>(line: &[u8], k: usize) -> [u8; N] {
+fn array<const N: usize>(line: &[u8], k: usize) -> [u8; N]
+    ensures { length result ≡ N }
+{
     let mut out = [0; N];
     decode(line, k, &mut out);
     out
@@ -94,7 +101,7 @@ fn outcome(answer: u8, bytes: Vec<u8>) -> Outcome {
 // ---- records: behind the command stand SIDE KEYBLOCK NUMBER TYPE VERSION
 
 fn keys(line: &[u8]) -> RecordKeysCbc {
-    RecordKeysCbc::from_key_block(role(line, 1), &array::<128>(line, 2)).keys
+    RecordKeysCbc::from_key_block(role(line, 1), &array::<128>(line, 2)).unwrap()
 }
 
 fn content_type(line: &[u8]) -> u8 {
@@ -104,7 +111,7 @@ fn content_type(line: &[u8]) -> u8 {
 fn seal(alloc: Global, line: &[u8]) -> Result<Outcome, AllocError> {
     let plaintext = bytes(alloc, line, 7)?;
     let mut out = vec![in alloc; 0; 2112]?;
-    let s = record::protect_cbc(
+    let sealed = record::protect_cbc(
         keys(line),
         number(line, 3),
         content_type(line),
@@ -113,8 +120,8 @@ fn seal(alloc: Global, line: &[u8]) -> Result<Outcome, AllocError> {
         &plaintext,
         &mut out,
     );
-    out.truncate(s.length);
-    Ok(outcome(s.answer, out))
+    out.truncate(sealed.unwrap_or(0));
+    Ok(outcome(number_of(sealed), out))
 }
 
 fn open(alloc: Global, line: &[u8]) -> Result<Outcome, AllocError> {
@@ -134,8 +141,9 @@ fn open(alloc: Global, line: &[u8]) -> Result<Outcome, AllocError> {
 
 // ---- hash and MAC
 
-fn digest(alloc: Global, d: Digest) -> Result<Answer, AllocError> {
-    derived(alloc, &d.bytes)
+// Zeros stand for a digest that is refused; none is, since each state here comes of a fresh one.
+fn digest(alloc: Global, d: Result<[u8; 32], Refusal>) -> Result<Answer, AllocError> {
+    derived(alloc, &d.unwrap_or([0; 32]))
 }
 
 // The state after an update for each field from field k on.
@@ -155,26 +163,30 @@ fn after_fields<S: Drop, F: Fn(S, &[u8]) -> S>(
 }
 
 fn hash_parts(alloc: Global, line: &[u8]) -> Result<Sm3, AllocError> {
-    after_fields(alloc, line, 1, Sm3::new(), |h, part| h.update(part).hasher)
+    after_fields(alloc, line, 1, Sm3::new(), |h, part| {
+        h.update(part).unwrap_or(h)
+    })
 }
 
 // The key, and an update for each field behind it.
 fn mac_parts(alloc: Global, line: &[u8]) -> Result<HmacSm3, AllocError> {
     let keyed = HmacSm3::new(&bytes(alloc, line, 1)?);
-    after_fields(alloc, line, 2, keyed.mac, |m, part| m.update(part).mac)
+    after_fields(alloc, line, 2, keyed, |m, part| {
+        m.update(part).unwrap_or(m)
+    })
 }
 
 // ---- key schedule
 
 fn master(alloc: Global, line: &[u8]) -> Result<Answer, AllocError> {
     let mut out = vec![in alloc; 0; 48]?;
-    let a = key_schedule::derive_master_secret(
+    let derived = key_schedule::derive_master_secret(
         &array::<48>(line, 1),
         &array::<32>(line, 2),
         &array::<32>(line, 3),
         &mut out,
     );
-    Ok(Answer::Derived(outcome(a, out)))
+    Ok(Answer::Derived(outcome(number_of(derived), out)))
 }
 
 // Of more than 1,024 bytes it is the Rust's alone, and bad here.
@@ -184,29 +196,33 @@ fn key_block(alloc: Global, line: &[u8]) -> Result<Answer, AllocError> {
         return Ok(Answer::Bad);
     }
     let mut out = vec![in alloc; 0; len as usize]?;
-    let a = key_schedule::derive_key_block(
+    let derived = key_schedule::derive_key_block(
         &array::<48>(line, 1),
         &array::<32>(line, 2),
         &array::<32>(line, 3),
         &mut out,
     );
-    Ok(Answer::Derived(outcome(a, out)))
+    Ok(Answer::Derived(outcome(number_of(derived), out)))
 }
 
 fn finished(alloc: Global, line: &[u8]) -> Result<Answer, AllocError> {
     let mut out = vec![in alloc; 0; 12]?;
-    let a = key_schedule::finished_verify_data(
+    let derived = key_schedule::finished_verify_data(
         &array::<48>(line, 1),
         role(line, 2),
         &array::<32>(line, 3),
         &mut out,
     );
-    Ok(Answer::Derived(outcome(a, out)))
+    Ok(Answer::Derived(outcome(number_of(derived), out)))
 }
 
 fn main(rt: HostRuntime) -> io::Result<()> {
     let alloc = rt.alloc();
-    for line in BufReader::new(alloc, rt.reader())?.split(alloc, b'\n') {
+    let input = UntilFailure {
+        inner: rt.reader(),
+        failed: false,
+    };
+    for line in BufReader::new(alloc, input)?.split(alloc, b'\n') {
         let answer = run(alloc, &line?)?;
         println!(rt; "{answer}")?;
     }

@@ -53,7 +53,7 @@ impl Run<'_> {
             "{}-{k} {} {}",
             self.name,
             Report(s),
-            Hex(&sm3::hash(&self.out).bytes)
+            Hex(&sm3::hash(&self.out))
         )?;
         Ok(s.opening)
     }
@@ -241,7 +241,7 @@ fn start(rt: &impl Print, alloc: Global, record_len: usize, room: usize) -> io::
     println!(rt;
         "start-{record_len}-{room} {} {}",
         Report(s),
-        Hex(&sm3::hash(b"").bytes)
+        Hex(&sm3::hash(b""))
     )?;
     sized(rt, alloc, "start-room", room, s.opening, 144, 160)
 }

@@ -2,20 +2,21 @@
 // values of other implementations, which the script `expected` gathers and names.
 #![tactic(auto)]
 
+use answers::number_of;
 use programs::{Hex, State, odd, spread};
 use sm3::Sm3;
 use std::io;
 
 // A line: the digest of a message, behind its name.
 fn digest(rt: &impl Print, name: &str, message: &[u8]) -> io::Result<()> {
-    println!(rt; "{name} {}", Hex(&sm3::hash(message).bytes))
+    println!(rt; "{name} {}", Hex(&sm3::hash(message)))
 }
 
 // The digest of the pattern's first n bytes.
 fn bytes(rt: &impl Print, n: u8) -> io::Result<()> {
     let mut m = [0u8; 256];
     spread(7, 3, &mut m);
-    println!(rt; "bytes-{n} {}", Hex(&sm3::hash(&m[..usize::from(n)]).bytes))
+    println!(rt; "bytes-{n} {}", Hex(&sm3::hash(&m[..usize::from(n)])))
 }
 
 // The state after an update of each size, with the pattern's bytes in turn: byte i + 256 is byte i.
@@ -28,7 +29,7 @@ fn cut(rt: &impl Print, sizes: &[u8]) -> io::Result<()> {
     for &size in sizes {
         print!(rt; "-{size}")?;
         let start = usize::from(at);
-        h = h.update(&m[start..start + usize::from(size)]).hasher;
+        h = h.update(&m[start..start + usize::from(size)]).unwrap_or(h);
         at = at.wrapping_add(size);
     }
     println!(rt; " {}", State(h))
@@ -38,20 +39,29 @@ fn cut(rt: &impl Print, sizes: &[u8]) -> io::Result<()> {
 fn million(rt: &impl Print) -> io::Result<()> {
     let mut h = Sm3::new();
     for _ in 0..1000 {
-        h = h.update(&[b'a'; 1000]).hasher;
+        h = h.update(&[b'a'; 1000]).unwrap_or(h);
     }
-    println!(rt; "million {}", Hex(&h.finalize().bytes))
+    println!(rt; "million {}", Hex(&h.finalize().unwrap_or([0; 32])))
 }
 
-// An update and a digest of a state that no message leads to.
+// An update and a digest of a state that no message leads to. Behind its number a refused update has the state as
+// given, and a refused digest zeros.
 fn update_and_finalize(rt: &impl Print, fill: usize, total: u64) -> io::Result<()> {
     let h = odd(fill, total);
     let mut part = [0u8; 10];
     spread(7, 195, &mut part);
     let u = h.update(&part);
-    println!(rt; "update-{fill}-{total} {} {}", u.answer, State(u.hasher))?;
+    println!(rt;
+        "update-{fill}-{total} {} {}",
+        number_of(u),
+        State(u.unwrap_or(h))
+    )?;
     let d = h.finalize();
-    println!(rt; "finalize-{fill}-{total} {} {}", d.answer, Hex(&d.bytes))
+    println!(rt;
+        "finalize-{fill}-{total} {} {}",
+        number_of(d),
+        Hex(&d.unwrap_or([0; 32]))
+    )
 }
 
 fn main(rt: HostRuntime) -> io::Result<()> {

@@ -27,8 +27,8 @@ returns c =
     c.copy_at.ensures.output ∙ ap₂ (put 3) c.record_header-header.ensures c.spread.ensures.output in
     let rest : 16 + L - 3 ≡ 13 + L = omega arith in
     let covered_lem = covered L n (omega (arith, c.from-end.ensures)) in
-    let mac_lem : c.hmac_sm3.result.bytes ≡ mac_of L =
-    rw (c.hmac_sm3.ensures, c.keys.ensures, headed_lem, c.from-end.ensures, rest, covered_lem) refl in
+    let mac_lem : c.hmac_sm3-mac.result ≡ mac_of L =
+    rw (c.hmac_sm3-mac.ensures, c.keys.ensures, headed_lem, c.from-end.ensures, rest, covered_lem) refl in
     record {
       output =
           rw (room, c.fill_at.ensures.output, c.copy_at-2.ensures.output, mac_lem, headed_lem)
