@@ -273,7 +273,7 @@ pub extern "C" fn noustrel_key_halves(
     DONE as u32
 }
 
-// 0 is the client, any other number the server.
+// 0 is the client, any other number the server. No `From`, which would stand in key_schedule: the numbers are C's.
 fn role_of(role: u32) -> TlcpRole
     ensures { result ≡ role_of role }
 {

@@ -131,7 +131,8 @@ fn sealed_length(len: usize) -> usize
 
 // The sealed record laid over the front of out: the IV, then text, MAC and padding enciphered; bytes behind it stay as found. Its length
 // is handed back. More text than MAX_PLAINTEXT is refused first, then less room than the record takes; either leaves out as found. That
-// nobody can guess the IV, and that no number is used twice under one key, is the caller's duty.
+// nobody can guess the IV, and that no number is used twice under one key, is the caller's duty. Keys, number, type and version stay
+// apart, as in `start_cbc` of steps.
 pub fn protect_cbc(
     keys: RecordKeysCbc,
     seq: u64,

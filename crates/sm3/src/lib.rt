@@ -27,7 +27,8 @@ pub const DIGEST_SIZE: usize = 32;
 pub const BLOCK_SIZE: usize = 64;
 
 // A running hash: the words after the whole blocks, the buffer with the bytes since, how many of its bytes those are,
-// and the count of all bytes, modulo 2^64.
+// and the count of all bytes, modulo 2^64. The fields are C's, a fill beside its buffer among them, and any value may stand in them:
+// so that the fill is below 64 is asked for where a call leads to it, since a type that has it would hold all four fields again.
 #[repr(C)]
 #[derive(Clone, Copy)]
 pub struct Sm3 {
