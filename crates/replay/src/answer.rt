@@ -1,17 +1,18 @@
 // What is printed for a line.
-use answers::{BAD_RECORD, SHORT, TOO_LONG};
+use answers::{DONE, Refusal};
 use sm3::Sm3;
 use std::fmt;
 
-// Bytes, or the number of a refusal.
-pub type Outcome = Result<Vec<u8>, u8>;
+// Bytes, or why they are refused.
+pub type Outcome = Result<Vec<u8>, Refusal>;
 
 #[derive(Drop)]
 pub enum Answer {
     Bad,
     Derived(Outcome),
     Sealed(Outcome),
-    Opened(Outcome),
+    // the number that an opening answers, and the text
+    Opened(u8, Vec<u8>),
     State(Sm3),
 }
 
@@ -20,10 +21,11 @@ impl fmt::Display for Answer {
         match self {
             Answer::Bad => write!(f, "bad"),
             Answer::Derived(Ok(bytes)) => write!(f, "{}", Hex(bytes)),
-            Answer::Derived(Err(answer)) => write!(f, "{answer}"),
-            Answer::Sealed(outcome) => write!(f, "{}", Record(outcome)),
+            Answer::Derived(Err(why)) => write!(f, "{}", why.number()),
+            Answer::Sealed(Ok(bytes)) => write!(f, "{}", Record(DONE, bytes)),
+            Answer::Sealed(Err(why)) => write!(f, "{}", Record(why.number(), &[])),
             // The Rust has no steps: where their number stands it prints a question mark.
-            Answer::Opened(outcome) => write!(f, "{} ?", Record(outcome)),
+            Answer::Opened(answer, text) => write!(f, "{} ?", Record(*answer, text)),
             Answer::State(h) => write!(f, "{}", State(h)),
         }
     }
@@ -47,15 +49,26 @@ impl<'a> fmt::Display for Hex<'a> {
 
 // A record, or a text, behind its answer; none with a refusal.
 #[derive(Clone, Copy)]
-struct Record<'a>(&'a Outcome);
+struct Record<'a>(u8, &'a [u8]);
+
+// What the Rust says `none` for; any other number stands as it is.
+const SILENT: [Refusal; 5] = [
+    Refusal::TooLong,
+    Refusal::Short,
+    Refusal::Ragged,
+    Refusal::TooBig,
+    Refusal::BadRecord,
+];
 
 impl<'a> fmt::Display for Record<'a> {
     fn fmt<W: fmt::Write>(&self, f: &mut fmt::Formatter<W>) -> fmt::Result {
-        match self.0 {
-            Ok(bytes) => write!(f, "0 {}", Hex(bytes)),
-            // The Rust says `none` for these; any other number stands as it is.
-            Err(TOO_LONG | SHORT..=BAD_RECORD) => write!(f, "none -"),
-            Err(answer) => write!(f, "{answer} -"),
+        let Record(answer, bytes) = *self;
+        if answer == DONE {
+            write!(f, "0 {}", Hex(bytes))
+        } else if SILENT.iter().any(|why| why.number() == answer) {
+            write!(f, "none -")
+        } else {
+            write!(f, "{answer} -")
         }
     }
 }

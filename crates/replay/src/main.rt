@@ -7,13 +7,12 @@ ghost use Rattle.std.specs.Prelude.{◌≡◌, length};
 
 mod answer;
 mod command;
-mod input;
 
-use answer::{Answer, Outcome};
-use answers::{Refusal, number_of};
+use answer::Answer;
+use answers::Refusal;
+use arrayvec::ArrayVec;
 use command::Command;
 use hmac::HmacSm3;
-use input::UntilFailure;
 use key_schedule::TlcpRole;
 use protocol::{count, decode, is_word, number_at};
 use record::RecordKeysCbc;
@@ -21,7 +20,7 @@ use sm3::Sm3;
 use sm4::Sm4Cipher;
 use std::alloc::{AllocError, Global};
 use std::io;
-use std::io::{BufRead as _, BufReader};
+use std::io::{BufReader, Read as _};
 
 // What a line asks for, done.
 fn run(alloc: Global, line: &[u8]) -> Result<Answer, AllocError> {
@@ -29,8 +28,8 @@ fn run(alloc: Global, line: &[u8]) -> Result<Answer, AllocError> {
         return Ok(Answer::Bad);
     };
     match command {
-        Command::Seal => Ok(Answer::Sealed(seal(alloc, line)?)),
-        Command::Open => Ok(Answer::Opened(open(alloc, line)?)),
+        Command::Seal => seal(alloc, line),
+        Command::Open => open(alloc, line),
         Command::Sm3 => derived(alloc, &sm3::hash(&bytes(alloc, line, 1)?)),
         Command::Sm3Parts => digest(alloc, hash_parts(alloc, line)?.finalize()),
         Command::Sm3State => Ok(Answer::State(hash_parts(alloc, line)?)),
@@ -90,14 +89,6 @@ fn derived(alloc: Global, bytes: &[u8]) -> Result<Answer, AllocError> {
     Ok(Answer::Derived(Ok(Vec::from_slice(alloc, bytes)?)))
 }
 
-fn outcome(answer: u8, bytes: Vec<u8>) -> Outcome {
-    if answer == answers::DONE {
-        Ok(bytes)
-    } else {
-        Err(answer)
-    }
-}
-
 // ---- records: behind the command stand SIDE KEYBLOCK NUMBER TYPE VERSION
 
 fn keys(line: &[u8]) -> RecordKeysCbc {
@@ -108,7 +99,7 @@ fn content_type(line: &[u8]) -> u8 {
     array::<1>(line, 4)[0]
 }
 
-fn seal(alloc: Global, line: &[u8]) -> Result<Outcome, AllocError> {
+fn seal(alloc: Global, line: &[u8]) -> Result<Answer, AllocError> {
     let plaintext = bytes(alloc, line, 7)?;
     let mut out = vec![in alloc; 0; 2112]?;
     let sealed = record::protect_cbc(
@@ -121,10 +112,10 @@ fn seal(alloc: Global, line: &[u8]) -> Result<Outcome, AllocError> {
         &mut out,
     );
     out.truncate(sealed.unwrap_or(0));
-    Ok(outcome(number_of(sealed), out))
+    Ok(Answer::Sealed(sealed.map(|_| out)))
 }
 
-fn open(alloc: Global, line: &[u8]) -> Result<Outcome, AllocError> {
+fn open(alloc: Global, line: &[u8]) -> Result<Answer, AllocError> {
     let sealed = bytes(alloc, line, 6)?;
     let mut out = vec![in alloc; 0; 2048]?;
     let o = opening::deprotect_cbc(
@@ -136,7 +127,7 @@ fn open(alloc: Global, line: &[u8]) -> Result<Outcome, AllocError> {
         &mut out,
     );
     out.truncate(o.length);
-    Ok(outcome(o.answer, out))
+    Ok(Answer::Opened(o.answer, out))
 }
 
 // ---- hash and MAC
@@ -186,7 +177,7 @@ fn master(alloc: Global, line: &[u8]) -> Result<Answer, AllocError> {
         &array::<32>(line, 3),
         &mut out,
     );
-    Ok(Answer::Derived(outcome(number_of(derived), out)))
+    Ok(Answer::Derived(derived.map(|()| out)))
 }
 
 // Of more than 1,024 bytes it is the Rust's alone, and bad here.
@@ -202,7 +193,7 @@ fn key_block(alloc: Global, line: &[u8]) -> Result<Answer, AllocError> {
         &array::<32>(line, 3),
         &mut out,
     );
-    Ok(Answer::Derived(outcome(number_of(derived), out)))
+    Ok(Answer::Derived(derived.map(|()| out)))
 }
 
 fn finished(alloc: Global, line: &[u8]) -> Result<Answer, AllocError> {
@@ -213,18 +204,29 @@ fn finished(alloc: Global, line: &[u8]) -> Result<Answer, AllocError> {
         &array::<32>(line, 3),
         &mut out,
     );
-    Ok(Answer::Derived(outcome(number_of(derived), out)))
+    Ok(Answer::Derived(derived.map(|()| out)))
 }
 
+// One character more than a line may have: what does not fit is left out, and the line is still too long.
+const ROOM: usize = 4097;
+
+// A read that fails counts as the end of the input. What is begun of a line there is answered.
 fn main(rt: HostRuntime) -> io::Result<()> {
     let alloc = rt.alloc();
-    let input = UntilFailure {
-        inner: rt.reader(),
-        failed: false,
-    };
-    for line in BufReader::new(alloc, input)?.split(alloc, b'\n') {
-        let answer = run(alloc, &line?)?;
-        println!(rt; "{answer}")?;
+    let mut line: ArrayVec<u8, ROOM> = ArrayVec::new();
+    for byte in BufReader::new(alloc, rt.reader())?.bytes() {
+        let Ok(byte) = byte else {
+            break;
+        };
+        if byte == b'\n' {
+            println!(rt; "{}", run(alloc, &line)?)?;
+            line.clear();
+        } else if !line.is_full() {
+            line.push(byte);
+        }
+    }
+    if !line.is_empty() {
+        println!(rt; "{}", run(alloc, &line)?)?;
     }
     Ok(())
 }
