@@ -27,6 +27,7 @@ pub fn both_cbc(
     cbc::encipher_cbc(cipher, iv, &mut record[16..]);
     println!(rt; "{name}-encrypt {}", Hex(&record[16..]))?;
     let mut out = vec![in alloc; 0xeeu8; body.len()]?;
+    // k is the number of a block of the body, which `decipher_block_cbc` takes
     for k in 0..body.len() / 16 {
         cbc::decipher_block_cbc(cipher, &record, k, &mut out);
     }

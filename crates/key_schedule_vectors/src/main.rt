@@ -77,8 +77,7 @@ fn run(
     }
 }
 
-fn main(rt: HostRuntime) -> io::Result<()> {
-    let alloc = rt.alloc();
+fn master_secrets(rt: &impl Print, alloc: Global) -> io::Result<()> {
     for (lengths, n) in [
         ([48, 32, 32], 48),
         ([47, 32, 32], 48),
@@ -90,10 +89,15 @@ fn main(rt: HostRuntime) -> io::Result<()> {
         ([48, 32, 32], 47),
         ([48, 32, 32], 49),
     ] {
-        run(&rt, alloc, Derivation::MasterSecret, lengths, n)?;
+        run(rt, alloc, Derivation::MasterSecret, lengths, n)?;
     }
+    Ok(())
+}
+
+// Outputs of several lengths, and then inputs of wrong ones.
+fn key_blocks(rt: &impl Print, alloc: Global) -> io::Result<()> {
     for n in [0, 1, 31, 32, 33, 40, 64, 128, 1023, 1024, 1025] {
-        run(&rt, alloc, Derivation::KeyBlock, [48, 32, 32], n)?;
+        run(rt, alloc, Derivation::KeyBlock, [48, 32, 32], n)?;
     }
     for (lengths, n) in [
         ([47, 32, 32], 128),
@@ -104,8 +108,12 @@ fn main(rt: HostRuntime) -> io::Result<()> {
         ([48, 32, 33], 128),
         ([47, 32, 32], 0),
     ] {
-        run(&rt, alloc, Derivation::KeyBlock, lengths, n)?;
+        run(rt, alloc, Derivation::KeyBlock, lengths, n)?;
     }
+    Ok(())
+}
+
+fn finished(rt: &impl Print, alloc: Global) -> io::Result<()> {
     for (role, lengths, n) in [
         (TlcpRole::Client, [48, 32, 0], 12),
         (TlcpRole::Server, [48, 32, 0], 12),
@@ -116,7 +124,14 @@ fn main(rt: HostRuntime) -> io::Result<()> {
         (TlcpRole::Client, [48, 32, 0], 11),
         (TlcpRole::Server, [48, 32, 0], 13),
     ] {
-        run(&rt, alloc, Derivation::Finished(role), lengths, n)?;
+        run(rt, alloc, Derivation::Finished(role), lengths, n)?;
     }
     Ok(())
+}
+
+fn main(rt: HostRuntime) -> io::Result<()> {
+    let alloc = rt.alloc();
+    master_secrets(&rt, alloc)?;
+    key_blocks(&rt, alloc)?;
+    finished(&rt, alloc)
 }

@@ -246,6 +246,22 @@ fn start(rt: &impl Print, alloc: Global, record_len: usize, room: usize) -> io::
     sized(rt, alloc, "start-room", room, s.opening, 144, 160)
 }
 
+// Records about the least length and the greatest, and rooms about the length of the body.
+fn starts(rt: &impl Print, alloc: Global) -> io::Result<()> {
+    for (record_len, room) in [
+        (63, 160),
+        (65, 0),
+        (64, 47),
+        (64, 48),
+        (16448, 16431),
+        (16448, 16432),
+        (16464, 16448),
+    ] {
+        start(rt, alloc, record_len, room)?;
+    }
+    Ok(())
+}
+
 fn main(rt: HostRuntime) -> io::Result<()> {
     let alloc = rt.alloc();
     short(&rt, alloc)?;
@@ -276,16 +292,5 @@ fn main(rt: HostRuntime) -> io::Result<()> {
     out_of_range(&rt, alloc, opening)?;
     other_sizes(&rt, alloc, opening)?;
     other_bodies(&rt, alloc, opening)?;
-    for (record_len, room) in [
-        (63, 160),
-        (65, 0),
-        (64, 47),
-        (64, 48),
-        (16448, 16431),
-        (16448, 16432),
-        (16464, 16448),
-    ] {
-        start(&rt, alloc, record_len, room)?;
-    }
-    Ok(())
+    starts(&rt, alloc)
 }
