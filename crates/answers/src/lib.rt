@@ -1,5 +1,5 @@
-// The answers, as the scope's table has them. A call that can refuse answers a result; where the answer is chosen by a mask, or goes
-// to C, it is the number.
+// The answers, as the scope's table has them. A call that can refuse answers a result; where the answer is chosen by a
+// mask, or goes to C, it is the number.
 #![tactic(auto)]
 
 ghost use Rattle.std.specs.Prelude.{◌≡◌};

@@ -1,5 +1,6 @@
-// Numbers as bytes and back, the highest byte first: the library's methods, under the definitions of words. One function
-// for each width, since each is one call: a trait over them would have the same six bodies, and its laws besides.
+// Numbers as bytes and back, the highest byte first: the library's methods, under the definitions of words. One
+// function for each width, since each is one call: a trait over them would have the same six bodies, and its laws
+// besides.
 #![tactic(auto)]
 
 ghost use Rattle.std.specs.Prelude.{◌≡◌};

@@ -1,6 +1,7 @@
-// The C-callable functions: numbers and byte slices, a slice as a pointer and a length. A key schedule argument, cipher key,
-// record MAC key, key block to be cut, IV, block, digest or MAC of another size than its own is answer 9, before all else, and
-// what was lent stays as found; reported numbers are written on every call, 0 with a refusal (but the count is T with answer 6).
+// The C-callable functions: numbers and byte slices, a slice as a pointer and a length. A key schedule argument, cipher
+// key, record MAC key, key block to be cut, IV, block, digest or MAC of another size than its own is answer 9, before
+// all else, and what was lent stays as found; reported numbers are written on every call, 0 with a refusal (but the
+// count is T with answer 6).
 #![tactic(auto)]
 
 ghost use Rattle.std.specs.Prelude.{◌&&◌, ◌≡◌, length};
@@ -70,7 +71,7 @@ pub extern "C" fn noustrel_hmac_sm3(key: &[u8], message: &[u8], mac: &mut [u8]) 
     number_of(put_digest(mac, hmac::hmac_sm3(key, message))) as u32
 }
 
-// All the bytes as an array.
+// All the bytes as an array. `TryFrom` gives a result of which it would have to be proved that it is no error.
 fn array<const N: usize>(x: &[u8]) -> [u8; N]
     requires { length x.now ≡ N }
     ensures { result ≡ x.now }
@@ -105,7 +106,8 @@ fn keys_from(mac_key: &[u8], enc_key: &[u8]) -> RecordKeysCbc
     }
 }
 
-// The sealed record of a text into the front of out, its length into length. The version goes as one number, high byte first.
+// The sealed record of a text into the front of out, its length into length. The version goes as one number, high byte
+// first.
 #[unsafe(no_mangle)]
 pub extern "C" fn noustrel_seal(
     mac_key: &[u8],
@@ -166,8 +168,8 @@ fn block_sizes(key: &[u8], block: &[u8], out: &[u8]) -> bool
     key.len() == KEY_SIZE && (block.len() == BLOCK_SIZE && out.len() == BLOCK_SIZE)
 }
 
-// Twins of which C names both. One function over the direction, by a closure or handed an optional cipher and block, is not covered
-// by the borrow checker or tells its caller nothing.
+// Twins of which C names both. One function over the direction, by a closure or handed an optional cipher and block, is
+// not covered by the borrow checker or tells its caller nothing.
 // The block enciphered under the key, into out.
 #[unsafe(no_mangle)]
 pub extern "C" fn noustrel_sm4_encrypt_block(key: &[u8], block: &[u8], out: &mut [u8]) -> u32

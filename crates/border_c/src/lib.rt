@@ -1,5 +1,6 @@
-// The functions of `border` as C calls them, under the same names, each one call of the function there with the same clauses:
-// a static library exports, and no crate can stand on it. Numbers and byte slices, a slice as a pointer and a length.
+// The functions of `border` as C calls them, under the same names, each one call of the function there with the same
+// clauses: a static library exports, and no crate can stand on it. Numbers and byte slices, a slice as a pointer and a
+// length.
 #![tactic(auto)]
 
 ghost use Rattle.border.specs.Promise.{

@@ -17,7 +17,7 @@ fn block_at(data: &[u8], at: usize) -> [u8; 16]
     *data[at..].first_chunk().unwrap()
 }
 
-// Each byte of a with that of b.
+// Each byte of a with that of b: the call of words for bytes, so that the clauses here speak of `xor_each`.
 fn xor_blocks(a: [u8; 16], b: [u8; 16]) -> [u8; 16]
     ensures { result ≡ xor_each a b }
 {

@@ -76,7 +76,8 @@ impl HmacSm3 {
         }
     }
 
-    // The state that has taken in data too; refused where either hash is out of range, and then the state stays as given.
+    // The state that has taken in data too; refused where either hash is out of range, and then the state stays as
+    // given.
     pub fn update(self, data: &[u8]) -> Result<HmacSm3, Refusal>
         ensures { keyed_of self result ≡ updated self «data».now }
     {

@@ -1,6 +1,7 @@
-// TLCP's key schedule, GB/T 38636-2020 section 6.5, from the Rust's key_schedule.rs: P_hash of RFC 5246 with HMAC-SM3, and the
-// three derivations made of it. A length out of place is refused (answer 9), before all else, and the output stays as found.
-// Lengths, labels, the role and the output's length are public; the secrets and what is made of them are not branched on.
+// TLCP's key schedule, GB/T 38636-2020 section 6.5, from the Rust's key_schedule.rs: P_hash of RFC 5246 with HMAC-SM3,
+// and the three derivations made of it. A length out of place is refused (answer 9), before all else, and the output
+// stays as found. Lengths, labels, the role and the output's length are public; the secrets and what is made of them
+// are not branched on.
 #![tactic(auto)]
 
 ghost use Rattle.std.specs.Prelude.{◌++◌, ◌≡◌, ◌≤◌, length};
@@ -44,7 +45,8 @@ impl TlcpRole {
     }
 }
 
-// What an expansion is made of: the secret, and the seed in its three parts. They are so short that no count of HMAC-SM3 wraps.
+// What an expansion is made of: the secret, and the seed in its three parts. They are so short that no count of
+// HMAC-SM3 wraps.
 #[derive(Clone, Copy)]
 struct Expansion<'a> {
     secret: &'a [u8],
@@ -70,9 +72,9 @@ impl<'a> Expansion<'a> {
         hmac::hmac_sm3(self.secret, &a)
     }
 
-    // The output from A(i) = a on: one block, cut where out is shorter, and what remains by a call of itself from A(i + 1).
-    // One call for each block: the measure is the number of blocks that out takes, which falls with every call and is 1 to 32
-    // at each (one-to-32 of proofs/Depth.antt), so at most 32 calls stand on the stack.
+    // The output from A(i) = a on: one block, cut where out is shorter, and what remains by a call of itself from A(i +
+    // 1). One call for each block: the measure is the number of blocks that out takes, which falls with every call and
+    // is 1 to 32 at each (one-to-32 of proofs/Depth.antt), so at most 32 calls stand on the stack.
     fn p_sm3(&self, a: [u8; DIGEST_SIZE], out: &mut [u8])
         requires { Asked (length out.old) }
         ensures { out.new ≡ rest (HMAC SM3) self.now.secret.now (self.now.label.now ++ (self.now.first.now ++ self.now.second.now)) a (length out.old) }

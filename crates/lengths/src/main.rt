@@ -1,6 +1,6 @@
-// Reads lines of hexadecimal, one record a line, and prints for each the record's length, its size answer and the number
-// of steps that opening it takes, or `long` or `bad`. What is printed is made by `lines`: here bytes are read and written.
-// The buffers stay as they are, however long a line or the input is.
+// Reads lines of hexadecimal, one record a line, and prints for each the record's length, its size answer and the
+// number of steps that opening it takes, or `long` or `bad`. What is printed is made by `lines`: here bytes are read
+// and written. The buffers stay as they are, however long a line or the input is.
 #![tactic(auto)]
 
 ghost use Rattle.std.specs.Prelude.{◌≡◌, ◌≤◌, length, IfOk, IfSome};
@@ -61,8 +61,8 @@ struct Ended {
     going_on: Option<u64>,
 }
 
-// Reads to the end of the input. A proved loop has to end, and nothing says that an input does: so it counts its reads, up to
-// a number that no run uses up, and stops before the end of the input only there.
+// Reads to the end of the input. A proved loop has to end, and nothing says that an input does: so it counts its reads,
+// up to a number that no run uses up, and stops before the end of the input only there.
 fn read_all(rt: &(impl Input + Print)) -> io::Result<Ended>
     ensures { IfOk result (λ ended. IfSome ended.going_on (λ reads. reads ≡ 18446744073709551615)) }
 {

@@ -1,7 +1,7 @@
 // Lines of hexadecimal, read in parts of any size, judged by their length, and told of in bytes: what the program
 // `lengths` stands on.
-// A character is a byte. Of the line being read only a count and a mark are kept, so that no line is too long to be read. Nothing
-// here is secret.
+// A character is a byte. Of the line being read only a count and a mark are kept, so that no line is too long to be
+// read. Nothing here is secret.
 #![tactic(auto)]
 
 ghost use Rattle.std.specs.Prelude.{◌≡◌, [], ◌++◌, ◌+◌, ◌<◌, ◌≤◌, length};

@@ -1,7 +1,7 @@
-// The record's MAC in blocks, from the parts of mac_ct in the Rust's tlcp/record.rs: the same work for every text length up to
-// a public bound. The number of bytes lent and the block's number are public; the text's length, the header, which ends in it,
-// and the text's bytes are not, so every byte of a block is selected by masks or read at a public place, and the words are
-// kept by a mask.
+// The record's MAC in blocks, from the parts of mac_ct in the Rust's tlcp/record.rs: the same work for every text
+// length up to a public bound. The number of bytes lent and the block's number are public; the text's length, the
+// header, which ends in it, and the text's bytes are not, so every byte of a block is selected by masks or read at a
+// public place, and the words are kept by a mask.
 #![tactic(auto)]
 
 ghost use Rattle.std.specs.Prelude.{cond, [], ◌∷◌, ◌++◌, ◌≡◌, ◌+◌, ◌%◌, ◌<◌, ◌^◌, eqb, get_or, take, replicate};
@@ -62,7 +62,8 @@ fn candidate(header: &[u8; 13], data: &[u8], p: usize) -> u8
     }
 }
 
-// What is authenticated: the header, and behind it the text, the first held bytes of data. How many bytes are lent is public.
+// What is authenticated: the header, and behind it the text, the first held bytes of data. How many bytes are lent is
+// public.
 #[derive(Drop)]
 struct Message<'a> {
     header: [u8; 13],
@@ -91,8 +92,9 @@ impl<'a> Message<'a> {
         Message { header, data, held }
     }
 
-    // 1 where block b is the final one, which has room for the count behind the text and 0x80; else 0. The block's number is
-    // made by a shift, since held is secret, and no comparison tells it, since `keep` chooses eight words by it.
+    // 1 where block b is the final one, which has room for the count behind the text and 0x80; else 0. The block's
+    // number is made by a shift, since held is secret, and no comparison tells it, since `keep` chooses eight words by
+    // it.
     fn is_final(&self, b: usize) -> u8
         ensures { result ≡ bit (eqb b (final self.now)) }
     {
@@ -109,8 +111,9 @@ impl<'a> Message<'a> {
         masks::select(text, 0x80, masks::ct_eq(p, end))
     }
 
-    // The count of all bytes where block b is the final one, else zeros. It is chosen once for a block: a choice inside the loop
-    // over a block's bytes, where it never changes, would be taken out of the loop by the compiler, as a branch.
+    // The count of all bytes where block b is the final one, else zeros. It is chosen once for a block: a choice inside
+    // the loop over a block's bytes, where it never changes, would be taken out of the loop by the compiler, as a
+    // branch.
     fn count_in(&self, b: usize) -> [u8; 8]
         ensures { result ≡ count_in self.now b }
     {
@@ -149,8 +152,9 @@ impl<'a> Message<'a> {
     }
 }
 
-// words where the lowest bit of choice is 1, else kept: all eight by one mask. `copy_where` of verdict does so with bytes: one function
-// for both would lend across crates, with a promise, a law and wrong programs of its own, for a loop of one line.
+// words where the lowest bit of choice is 1, else kept: all eight by one mask. By the place, since nothing is known of
+// what a zip with `iter_mut` leaves. `copy_where` of verdict does so with bytes: one function for both would lend
+// across crates, with a promise, a law and wrong programs of its own, for a loop of one line.
 fn keep(kept: &mut [u32; 8], words: &[u32; 8], choice: u8)
     ensures { kept.new ≡ cond (eqb (choice % 2) 1) words.now kept.old }
 {

@@ -1,5 +1,6 @@
 // What the Rust takes from the crate `subtle`: comparisons as numbers 0 or 1, and selects by a mask made of one, each
-// over every type that has the `Bits` of words. No branch on what is compared or selected. Definitions and laws in words.
+// over every type that has the `Bits` of words. No branch on what is compared or selected. Definitions and laws in
+// words.
 #![tactic(auto)]
 
 ghost use Rattle.std.specs.Prelude.{◌≡◌, eqb, ltb};
@@ -21,8 +22,8 @@ pub fn ct_lt_usize(a: usize, b: usize) -> u8
     (a < b) as u8
 }
 
-// 1 where d is 0, else 0: the sum of its halves taken off 2^33. A shift and no comparison: of a comparison that chooses between eight
-// words in a row, the compiler makes a branch for x86-64.
+// 1 where d is 0, else 0: the sum of its halves taken off 2^33. A shift and no comparison: of a comparison that chooses
+// between eight words in a row, the compiler makes a branch for x86-64.
 pub fn ct_is_zero_usize(d: usize) -> u8
     ensures { result ≡ bit (eqb d 0) }
 {

@@ -9,8 +9,8 @@ ghost use Rattle.padding.specs.Scan.{checked};
 
 use record::MAC_LEN;
 
-// pad_ok is 1 where the padding is good, else 0; held is the length at which the MAC is worked out and compared. Two numbers
-// and no Option, which could be read by a branch on the mark alone; and the scope makes this pair a struct.
+// pad_ok is 1 where the padding is good, else 0; held is the length at which the MAC is worked out and compared. Two
+// numbers and no Option, which could be read by a branch on the mark alone; and the scope makes this pair a struct.
 #[derive(Clone, Copy)]
 pub struct Padding {
     pub pad_ok: u8,
@@ -25,9 +25,9 @@ fn differs(byte: u8, padlen: u8, i: usize) -> u8
     masks::select(0, byte ^ padlen, in_pad)
 }
 
-// The differences of the bytes that the padding reaches, ORed: 0 where a padding that fits is good. As many bytes are looked
-// at, from the last one back, as the longest padding has, or all: the loop ends neither at the padding's first byte nor at
-// one that differs.
+// The differences of the bytes that the padding reaches, ORed: 0 where a padding that fits is good. As many bytes are
+// looked at, from the last one back, as the longest padding has, or all: the loop ends neither at the padding's first
+// byte nor at one that differs.
 fn differences(body: &[u8], padlen: u8) -> u8
     requires { padlen ≡ last_byte body.now }
     ensures { good_pad body.now ≡ (pad_fits body.now && eqb result 0) }

@@ -1,5 +1,6 @@
-// Functions for runs that need what the library does not export, and no part of what is shipped: the streamed MAC, and its
-// verification. A tag of another size than 32 is answer 9, before all else. Lengths are public; key, message and tag are not.
+// Functions for runs that need what the library does not export, and no part of what is shipped: the streamed MAC, and
+// its verification. A tag of another size than 32 is answer 9, before all else. Lengths are public; key, message and
+// tag are not.
 #![tactic(auto)]
 
 ghost use Rattle.std.specs.Prelude.{◌≡◌};
@@ -11,8 +12,8 @@ use answers::{Refusal, number_of};
 use hmac::HmacSm3;
 use sm3::DIGEST_SIZE;
 
-// The bytes into out, if it has room for just them: as in border, which is no part of this; one function for both would need a crate
-// with a promise and a law for five lines.
+// The bytes into out, if it has room for just them: as in border, which is no part of this; one function for both would
+// need a crate with a promise and a law for five lines.
 #[tactic(auto, unfolding(crate::specs::Probes::answer_for, crate::specs::Probes::sized, crate::specs::Probes::filled))]
 fn put_tag(out: &mut [u8], bytes: [u8; DIGEST_SIZE]) -> Result<(), Refusal>
     ensures answers { number_of result ≡ answer_for (sized out.old) }
@@ -25,7 +26,8 @@ fn put_tag(out: &mut [u8], bytes: [u8; DIGEST_SIZE]) -> Result<(), Refusal>
     Ok(())
 }
 
-// 1 where the tag is the MAC of the message under the key, 0 where it is not, 9 where it has not 32 bytes.
+// 1 where the tag is the MAC of the message under the key, 0 where it is not, 9 where it has not 32 bytes: a number,
+// which C reads.
 #[unsafe(no_mangle)]
 pub extern "C" fn probe_hmac_verify(key: &[u8], message: &[u8], tag: &[u8]) -> u32
     ensures { result ≡ verified_for key.now message.now tag.now }

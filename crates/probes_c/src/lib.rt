@@ -1,5 +1,5 @@
-// The functions of `probes` as C calls them, under the same names, each one call of the function there with the same clauses. No part of
-// what is shipped.
+// The functions of `probes` as C calls them, under the same names, each one call of the function there with the same
+// clauses. No part of what is shipped.
 #![tactic(auto)]
 
 ghost use Rattle.std.specs.Prelude.{◌≡◌};

@@ -1,6 +1,6 @@
-// The lines of the comparison with the Rust: fields with one space between them, the command first, which is field 0. A field
-// is a side, c or s, a number in decimal, or bytes in lower-case hexadecimal, `-` for none. A character is a byte. Nothing here
-// is secret.
+// The lines of the comparison with the Rust: fields with one space between them, the command first, which is field 0. A
+// field is a side, c or s, a number in decimal, or bytes in lower-case hexadecimal, `-` for none. A character is a
+// byte. Nothing here is secret.
 #![tactic(auto)]
 
 ghost use Rattle.std.specs.Prelude.{◌≡◌};
@@ -33,8 +33,8 @@ fn field(line: &[u8], k: usize) -> &[u8]
     line.split(|c| *c == b' ').nth(k).unwrap_or(&[])
 }
 
-// The value of a digit, 0 to 9 or a to f; of another character some number below 16. `to_digit` gives none there, and `decode`
-// would need a case for it.
+// The value of a digit, 0 to 9 or a to f; of another character some number below 16. `to_digit` gives none there, and
+// `decode` would need a case for it.
 #[tactic(auto, unfolding(crate::specs::Fields::digit_of))]
 fn digit(c: u8) -> u8
     ensures { result ≡ digit_of c }
@@ -130,8 +130,9 @@ pub fn all_bytes(line: &[u8]) -> bool
         .all(|f| is(f, Kind::Bytes))
 }
 
-// The bytes of field k into the front of out, and how many they are; none and out as found where it has no room for them. No
-// `Option`: `Decoded` promises the number.
+// The bytes of field k into the front of out, and how many they are; none and out as found where it has no room for
+// them. No `Option`: `Decoded` promises the number. By the place: nothing is known of what a zip with `iter_mut`
+// leaves.
 pub fn decode(line: &[u8], k: usize, out: &mut [u8]) -> usize
     ensures { Decoded line.now k out.old result out.new }
 {

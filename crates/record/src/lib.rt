@@ -1,6 +1,7 @@
-// TLCP's record under SM4 in CBC, GB/T 38636-2020 section 6.3, from the CBC part of the Rust's tlcp/record.rs: the halves of
-// a key block, the MAC's header, and sealing. Lengths, the role, number, type and version are public; keys and text are not
-// branched on. The length given to record_header is secret where an opening calls it; it is only copied.
+// TLCP's record under SM4 in CBC, GB/T 38636-2020 section 6.3, from the CBC part of the Rust's tlcp/record.rs: the
+// halves of a key block, the MAC's header, and sealing. Lengths, the role, number, type and version are public; keys
+// and text are not branched on. The length given to record_header is secret where an opening calls it; it is only
+// copied.
 #![tactic(auto)]
 
 ghost use Rattle.std.specs.Prelude.{◌++◌, ◌≡◌, ◌+◌, ◌≤◌, length};
@@ -45,7 +46,8 @@ pub struct RecordKeysCbc {
     pub enc_key: [u8; 16],
 }
 
-// The keys that start at mac and at enc in the key block; refused where it has another length.
+// The keys that start at mac and at enc in the key block; refused where it has another length. Copied, as `array` of border
+// does.
 fn half_at(key_block: &[u8], mac: usize, enc: usize) -> Result<RecordKeysCbc, Refusal>
     requires { (mac + 32 ≤ cbc_key_block_len) × (enc + 16 ≤ cbc_key_block_len) }
     ensures { half_by result ≡ halved_by (keys_at mac enc) key_block.now }
@@ -129,10 +131,10 @@ fn sealed_length(len: usize) -> usize
     16 * (len / 16 + 4)
 }
 
-// The sealed record laid over the front of out: the IV, then text, MAC and padding enciphered; bytes behind it stay as found. Its length
-// is handed back. More text than MAX_PLAINTEXT is refused first, then less room than the record takes; either leaves out as found. That
-// nobody can guess the IV, and that no number is used twice under one key, is the caller's duty. Keys, number, type and version stay
-// apart, as in `start_cbc` of steps.
+// The sealed record laid over the front of out: the IV, then text, MAC and padding enciphered; bytes behind it stay as
+// found. Its length is handed back. More text than MAX_PLAINTEXT is refused first, then less room than the record
+// takes; either leaves out as found. That nobody can guess the IV, and that no number is used twice under one key, is
+// the caller's duty. Keys, number, type and version stay apart, as in `start_cbc` of steps.
 pub fn protect_cbc(
     keys: RecordKeysCbc,
     seq: u64,

@@ -1,5 +1,6 @@
 // What is printed for a line.
 use answers::{DONE, Refusal};
+use programs::{Hex, State};
 use sm3::Sm3;
 use std::fmt;
 
@@ -20,30 +21,27 @@ impl fmt::Display for Answer {
     fn fmt<W: fmt::Write>(&self, f: &mut fmt::Formatter<W>) -> fmt::Result {
         match self {
             Answer::Bad => write!(f, "bad"),
-            Answer::Derived(Ok(bytes)) => write!(f, "{}", Hex(bytes)),
+            Answer::Derived(Ok(bytes)) => write!(f, "{}", Bytes(bytes)),
             Answer::Derived(Err(why)) => write!(f, "{}", why.number()),
             Answer::Sealed(Ok(bytes)) => write!(f, "{}", Record(DONE, bytes)),
             Answer::Sealed(Err(why)) => write!(f, "{}", Record(why.number(), &[])),
             // The Rust has no steps: where their number stands it prints a question mark.
             Answer::Opened(answer, text) => write!(f, "{} ?", Record(*answer, text)),
-            Answer::State(h) => write!(f, "{}", State(h)),
+            Answer::State(h) => write!(f, "{}", State(*h)),
         }
     }
 }
 
-// Bytes in hexadecimal, `-` where there are none.
+// Bytes as a line of the comparison has them: in hexadecimal, `-` where there are none.
 #[derive(Clone, Copy)]
-struct Hex<'a>(&'a [u8]);
+struct Bytes<'a>(&'a [u8]);
 
-impl<'a> fmt::Display for Hex<'a> {
+impl<'a> fmt::Display for Bytes<'a> {
     fn fmt<W: fmt::Write>(&self, f: &mut fmt::Formatter<W>) -> fmt::Result {
         if self.0.is_empty() {
             return write!(f, "-");
         }
-        for b in self.0 {
-            write!(f, "{b:02x}")?;
-        }
-        Ok(())
+        write!(f, "{}", Hex(self.0))
     }
 }
 
@@ -64,25 +62,11 @@ impl<'a> fmt::Display for Record<'a> {
     fn fmt<W: fmt::Write>(&self, f: &mut fmt::Formatter<W>) -> fmt::Result {
         let Record(answer, bytes) = *self;
         if answer == DONE {
-            write!(f, "0 {}", Hex(bytes))
+            write!(f, "0 {}", Bytes(bytes))
         } else if SILENT.iter().any(|why| why.number() == answer) {
             write!(f, "none -")
         } else {
             write!(f, "{answer} -")
         }
-    }
-}
-
-// Words, buffer, fill and total.
-#[derive(Clone, Copy)]
-struct State<'a>(&'a Sm3);
-
-impl<'a> fmt::Display for State<'a> {
-    fn fmt<W: fmt::Write>(&self, f: &mut fmt::Formatter<W>) -> fmt::Result {
-        let h = self.0;
-        for word in h.state {
-            write!(f, "{word:08x}")?;
-        }
-        write!(f, " {} {} {}", Hex(&h.buffer), h.buffer_len, h.total_len)
     }
 }

@@ -1,6 +1,6 @@
-// Reads lines of the comparison with the Rust, does what each asks for and prints the answer. The file stdin is a list of such
-// lines and stdout what the Rust answered to them; ORIGIN says which Rust, and how both were recorded. A line that is malformed,
-// over 4,096 characters or of another command is answered `bad`.
+// Reads lines of the comparison with the Rust, does what each asks for and prints the answer. The file stdin is a list
+// of such lines and stdout what the Rust answered to them; ORIGIN says which Rust, and how both were recorded. A line
+// that is malformed, over 4,096 characters or of another command is answered `bad`.
 #![tactic(auto)]
 
 ghost use Rattle.std.specs.Prelude.{◌≡◌, length};
@@ -137,7 +137,7 @@ fn digest(alloc: Global, d: Result<[u8; 32], Refusal>) -> Result<Answer, AllocEr
     derived(alloc, &d.unwrap_or([0; 32]))
 }
 
-// The state after an update for each field from field k on.
+// The state after an update for each field from field k on: protocol reads a field by its number.
 fn after_fields<S: Drop, F: Fn(S, &[u8]) -> S>(
     alloc: Global,
     line: &[u8],

@@ -1,5 +1,5 @@
-// The sizes of a record to open, and the number of steps that opening it takes: public, and known before any byte is read.
-// From the length guards of deprotect_cbc and from ct_inner_blocks in the Rust's tlcp/record.rs.
+// The sizes of a record to open, and the number of steps that opening it takes: public, and known before any byte is
+// read. From the length guards of deprotect_cbc and from ct_inner_blocks in the Rust's tlcp/record.rs.
 #![tactic(auto)]
 
 ghost use Rattle.std.specs.Prelude.{◌≡◌};

@@ -27,8 +27,9 @@ pub const DIGEST_SIZE: usize = 32;
 pub const BLOCK_SIZE: usize = 64;
 
 // A running hash: the words after the whole blocks, the buffer with the bytes since, how many of its bytes those are,
-// and the count of all bytes, modulo 2^64. The fields are C's, a fill beside its buffer among them, and any value may stand in them:
-// so that the fill is below 64 is asked for where a call leads to it, since a type that has it would hold all four fields again.
+// and the count of all bytes, modulo 2^64. The fields are C's, a fill beside its buffer among them, and any value may
+// stand in them: so that the fill is below 64 is asked for where a call leads to it, since a type that has it would
+// hold all four fields again.
 #[repr(C)]
 #[derive(Clone, Copy)]
 pub struct Sm3 {
@@ -66,7 +67,8 @@ fn absorb(state: [u32; 8], buffer: [u8; 64], total: u64, data: &[u8]) -> Sm3
     }
 }
 
-// data where bytes wait in the buffer: laid behind them, and where that completes a block, the block through and then the rest.
+// data where bytes wait in the buffer: laid behind them, and where that completes a block, the block through and then
+// the rest.
 fn absorb_behind(h: Sm3, total: u64, data: &[u8]) -> Sm3
     requires { (0 < h.buffer_len) × (h.buffer_len < 64) }
     ensures { result ≡ absorbed h.state (base h (pending h «data».now)) total (pending h «data».now) }
@@ -110,7 +112,8 @@ fn put_count(block: [u8; 64], total: u64) -> [u8; 64]
     last
 }
 
-// The words' bytes, each word's highest first.
+// The words' bytes, each word's highest first. By the word's number: the library does not say what `chunks_exact_mut`
+// leaves.
 pub fn digest_of(v: [u32; 8]) -> [u8; DIGEST_SIZE]
     ensures { result ≡ bytes_of v }
 {

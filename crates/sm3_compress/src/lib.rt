@@ -39,6 +39,7 @@ fn gg(j: u32, x: u32, y: u32, z: u32) -> u32
     }
 }
 
+// P0 and P1, each a line of the standard, by its own name.
 fn p0(x: u32) -> u32
     ensures { result ≡ P0 x }
 {
@@ -67,7 +68,7 @@ fn one_round(v: [u32; 8], j: u32, w: u32, wp: u32) -> [u32; 8]
     [tt1, a, b9, c, e_next, e, f19, g]
 }
 
-// W_0 to W_15: the block's own words.
+// W_0 to W_15: the block's own words. By number here and in `primes`, as the standard has them.
 fn load(block: &[u8; 64]) -> [u32; 16]
     ensures { result ≡ words block.now }
 {
@@ -103,7 +104,7 @@ fn primes(w: &[u32; 68]) -> [u32; 64]
     array::from_fn(|j| w[j] ^ w[j + 4])
 }
 
-// Round j, with its two words.
+// Round j, with its two words. W and W' stay two arrays, as in the standard's CF and in the definitions.
 fn round_at(v: [u32; 8], j: usize, w: &[u32; 68], wp: &[u32; 64]) -> [u32; 8]
     requires { j < 64 }
     ensures { result ≡ round j v (at w.now j) (at wp.now j) }
@@ -111,8 +112,8 @@ fn round_at(v: [u32; 8], j: usize, w: &[u32; 68], wp: &[u32; 64]) -> [u32; 8]
     one_round(v, j as u32, w[j], wp[j])
 }
 
-// TURNS * 4 rounds, the first of them round FIRST. Behind four rounds each word is at its place again, and none has to be
-// moved.
+// TURNS * 4 rounds, the first of them round FIRST; the number of a round is one of its operands. Behind four rounds
+// each word is at its place again, and none has to be moved.
 fn rounds_of_four<const FIRST: usize, const TURNS: usize>(
     state: [u32; 8],
     w: &[u32; 68],

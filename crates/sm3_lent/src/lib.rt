@@ -1,6 +1,6 @@
-// The running hash SM3 where it stands: `start` and `update` alter a state that is lent to them, `finish` reads one, in place
-// of the Rust's methods over `&mut self` (sm3.rs). Each is thin: the state goes by value to a function that the checker
-// covers, and what comes back is stored whole. Lengths and the fill are public, and only they are branched on.
+// The running hash SM3 where it stands: `start` and `update` alter a state that is lent to them, `finish` reads one, in
+// place of the Rust's methods over `&mut self` (sm3.rs). Each is thin: the state goes by value to a function that the
+// checker covers, and what comes back is stored whole. Lengths and the fill are public, and only they are branched on.
 #![tactic(auto)]
 
 ghost use Rattle.std.specs.Prelude.{◌∷◌, ◌++◌, [], ◌≡◌};
@@ -27,8 +27,8 @@ pub fn update(h: &mut Sm3, data: &[u8]) -> Result<(), Refusal>
     Ok(())
 }
 
-// The digest of all bytes so far into 32 bytes, the state as it was. A digest of another size is refused before all else and
-// stays as found; where the state's fill is above 63 it becomes zeros.
+// The digest of all bytes so far into 32 bytes, the state as it was. A digest of another size is refused before all
+// else and stays as found; where the state's fill is above 63 it becomes zeros.
 pub fn finish(h: &Sm3, digest: &mut [u8]) -> Result<(), Refusal>
     ensures { Digested h.now digest.old (number_of result) digest.new }
 {

@@ -1,5 +1,5 @@
-// The function of `sm4_timing` as C calls it, under the same name, one call of the function there with the same clause. No part of what
-// is shipped.
+// The function of `sm4_timing` as C calls it, under the same name, one call of the function there with the same clause.
+// No part of what is shipped.
 #![tactic(auto)]
 
 ghost use Rattle.sm4_timing.specs.Promise.{Timed};

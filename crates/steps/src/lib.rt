@@ -1,7 +1,7 @@
-// Opening a record as steps: `start_cbc` tests the sizes, and each `step_cbc` does one small piece of the work that the Rust's
-// deprotect_cbc (tlcp/record.rs) does in one go. Which piece follows from the body's length and the number of steps done,
-// both public. Keys, deciphered bytes, the length held and the padding mark are secret and pass through masks only; the one
-// test on such a value is `held_too_long`.
+// Opening a record as steps: `start_cbc` tests the sizes, and each `step_cbc` does one small piece of the work that the
+// Rust's deprotect_cbc (tlcp/record.rs) does in one go. Which piece follows from the body's length and the number of
+// steps done, both public. Keys, deciphered bytes, the length held and the padding mark are secret and pass through
+// masks only; the one test on such a value is `held_too_long`.
 #![tactic(auto)]
 
 ghost use Rattle.std.specs.Prelude.{false, not, ◌&&◌, [], ◌≡◌, ◌+◌, ◌-◌, ◌/◌, ◌≤◌, ◌<◌, leb, ltb, length};
@@ -17,9 +17,9 @@ use mac_blocks::MacWords;
 use record::{IV_LEN, MAC_LEN, RecordKeysCbc};
 use sm4::Sm4Cipher;
 
-// An opening that has been started: what the steps so far have found, and the number of steps done. All zero before a start.
-// The fields, the ended mark beside its answer among them, are those that the scope lists and that `Place` and `InRange` of
-// crates/demands/specs/Steppers.antt read.
+// An opening that has been started: what the steps so far have found, and the number of steps done. All zero before a
+// start. The fields, the ended mark beside its answer among them, are those that the scope lists and that `Place` and
+// `InRange` of crates/demands/specs/Steppers.antt read.
 #[derive(Clone, Copy)]
 pub struct OpeningCbc {
     pub words: [u32; 8],
@@ -38,9 +38,9 @@ pub struct OpeningCbc {
     pub answer: u8,
 }
 
-// The opening after a start or a step, and the report: answer, text length, steps done. The answer is a number and no Result:
-// masks make the verdict, so that a Result would be a branch on it, and SameReports, SameCount and RefusedStart (there) speak of
-// all four on every path.
+// The opening after a start or a step, and the report: answer, text length, steps done. The answer is a number and no
+// Result: masks make the verdict, so that a Result would be a branch on it, and SameReports, SameCount and RefusedStart
+// (there) speak of all four on every path.
 #[derive(Clone, Copy)]
 pub struct Stepped {
     pub opening: OpeningCbc,
@@ -95,9 +95,9 @@ fn start_answer(record_len: usize, room: usize) -> Result<(), Refusal>
     Ok(())
 }
 
-// An opening of a record of record_len bytes into an output of room bytes; no byte of either is read. A refusal (3, 4, 5, then
-// 2) hands back the all-zero opening. Keys, number, type and version stay apart, in the Rust's order: `Sealer` and `Given` of
-// crates/demands/specs are functions of these.
+// An opening of a record of record_len bytes into an output of room bytes; no byte of either is read. A refusal (3, 4,
+// 5, then 2) hands back the all-zero opening. Keys, number, type and version stay apart, in the Rust's order: `Sealer`
+// and `Given` of crates/demands/specs are functions of these.
 #[tactic(auto, unfolding(crate::specs::State::started, crate::specs::State::begun, crate::specs::State::ended_with), using(crate::proofs::Sound::started_has_iv))]
 pub fn start_cbc(
     keys: RecordKeysCbc,
@@ -133,8 +133,8 @@ pub fn start_cbc(
     }
 }
 
-// The length held is more than the body has room for. The one test on a deciphered value: it is no in every opening that a
-// start and steps lead to.
+// The length held is more than the body has room for. The one test on a deciphered value: it is no in every opening
+// that a start and steps lead to.
 fn held_too_long(held: usize, n: usize) -> bool
     requires { 33 ≤ n }
     ensures { result ≡ ltb (n - 33) held }
@@ -162,7 +162,8 @@ fn is_broken(opening: OpeningCbc, record_len: usize, room: usize) -> bool
         || room < opening.n
 }
 
-// The work of a step. The type is public since the definitions of specs/ speak of it, and so theorems of other crates do.
+// The work of a step. The type is public since the definitions of specs/ speak of it, and so theorems of other crates
+// do.
 #[derive(Clone, Copy)]
 pub enum Work {
     // body block k, from 0
@@ -176,8 +177,8 @@ pub enum Work {
 }
 
 impl Work {
-    // The work for a body of n bytes with this number of steps done: m blocks, the padding, B blocks, and the last three. The
-    // bounds follow from n, so that no pattern has them.
+    // The work for a body of n bytes with this number of steps done: m blocks, the padding, B blocks, and the last
+    // three. The bounds follow from n, so that no pattern has them.
     #[tactic(auto, unfolding(crate::specs::Work::work_at, sizes::specs::Sizes::mac_steps))]
     fn at(n: usize, done: usize) -> Work
         ensures { result ≡ work_at n done }
@@ -200,8 +201,8 @@ impl Work {
     }
 }
 
-// An opening that is not broken and has not ended, so that a step is left: what each piece of work may count on. Record and output
-// are lent beside it: inside, a clause would name what was written by its place, `self.exit.1.1.0.now`.
+// An opening that is not broken and has not ended, so that a step is left: what each piece of work may count on. Record
+// and output are lent beside it: inside, a clause would name what was written by its place, `self.exit.1.1.0.now`.
 #[derive(Clone, Copy)]
 struct Live {
     opening: OpeningCbc,
@@ -227,7 +228,8 @@ impl Live {
         }
     }
 
-    // Block k of the body, deciphered into the output. The key is expanded again, since the opening carries no round keys.
+    // Block k of the body, deciphered into the output. The key is expanded again, since the opening carries no round
+    // keys.
     fn decipher(self, k: usize, record: &[u8], out: &mut [u8]) -> Stepped
         requires { (k < self.opening.n / 16) × (length «record».now ≡ self.opening.n + iv_len) × (self.opening.n ≤ length out.old) }
         ensures state { result ≡ report_by (Work.Decipher k) self.opening out.old }
@@ -321,8 +323,8 @@ impl Live {
     }
 }
 
-// One step. Answer 7, then answer 8, leave opening and output as they are; record and output are read only where the step's
-// work says so.
+// One step. Answer 7, then answer 8, leave opening and output as they are; record and output are read only where the
+// step's work says so.
 #[tactic(auto, unfolding(crate::specs::Step::stepped, crate::specs::Step::output_after), using(crate::proofs::Sound::sound, crate::proofs::Sound::one_more))]
 pub fn step_cbc(opening: OpeningCbc, record: &[u8], out: &mut [u8]) -> Stepped
     ensures { Step opening «record».now out.old result out.new }

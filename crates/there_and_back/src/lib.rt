@@ -1,5 +1,5 @@
-// There and back: a text is sealed and its record opened again by one call. What the two functions promise, taken together, says
-// that the text comes back.
+// There and back: a text is sealed and its record opened again by one call. What the two functions promise, taken
+// together, says that the text comes back.
 #![tactic(auto)]
 
 ghost use Rattle.there_and_back.specs.Promise.{ThereAndBack};
@@ -7,10 +7,11 @@ ghost use Rattle.there_and_back.specs.Promise.{ThereAndBack};
 use opening::Opened;
 use record::RecordKeysCbc;
 
-// plaintext sealed into record, and the sealed part of it opened into out: the text, zeros up to the body's length n, the rest
-// of out as found; bytes of record behind what was sealed stay as found. A refusal of sealing is reported with length 0 and
-// count 0, and leaves both buffers as found; less room in out than n is answer 2 and leaves out as found. Keys, number, type and
-// version stay apart, as in the two functions that are called, and the report is that of the second.
+// plaintext sealed into record, and the sealed part of it opened into out: the text, zeros up to the body's length n,
+// the rest of out as found; bytes of record behind what was sealed stay as found. A refusal of sealing is reported with
+// length 0 and count 0, and leaves both buffers as found; less room in out than n is answer 2 and leaves out as found.
+// Keys, number, type and version stay apart, as in the two functions that are called, and the report is that of the
+// second.
 pub fn seal_and_open(
     keys: RecordKeysCbc,
     seq: u64,

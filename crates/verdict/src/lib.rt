@@ -1,6 +1,6 @@
-// The end of an opening without a branch on what was deciphered: the MAC copied from its place, one verdict, and the bytes
-// that are no text cleared, from extract_mac_ct and the merge in deprotect_cbc of the Rust's tlcp/record.rs. Lengths of
-// slices are public; the text's length, the marks and all bytes are not.
+// The end of an opening without a branch on what was deciphered: the MAC copied from its place, one verdict, and the
+// bytes that are no text cleared, from extract_mac_ct and the merge in deprotect_cbc of the Rust's tlcp/record.rs.
+// Lengths of slices are public; the text's length, the marks and all bytes are not.
 #![tactic(auto)]
 
 ghost use Rattle.std.specs.Prelude.{cond, ◌≡◌, ◌%◌, eqb};
@@ -10,15 +10,16 @@ ghost use Rattle.verdict.specs.Verdict.{extracted, verdict_of};
 use answers::{DONE, Refusal};
 use record::MAC_LEN;
 
-// An answer with a length beside it and no Option: either is chosen by masks, and nothing branches on which of them it is.
+// An answer with a length beside it and no Option: either is chosen by masks, and nothing branches on which of them it
+// is.
 #[derive(Clone, Copy)]
 pub struct Verdict {
     pub answer: u8,
     pub length: usize,
 }
 
-// part where the lowest bit of hit is 1, else out: each byte is read and written either way. By the place, since nothing is known of what
-// a zip with `iter_mut` leaves; `keep` of mac_blocks says why its like stands there.
+// part where the lowest bit of hit is 1, else out: each byte is read and written either way. By the place, since
+// nothing is known of what a zip with `iter_mut` leaves; `keep` of mac_blocks says why its like stands there.
 fn copy_where(out: &mut [u8; MAC_LEN], part: &[u8; MAC_LEN], hit: u8)
     ensures { out.new ≡ cond (eqb (hit % 2) 1) part.now out.old }
 {

@@ -1,5 +1,6 @@
-// Words and spans: what the Rust takes from its language, as total functions. rotate_left, sums of words, div_ceil; bounded
-// copies and fills. Definitions in specs/, laws for the crates above in proofs/.
+// Words and spans: what the Rust takes from its language, as total functions. The trait `Bits`, arrays put on one
+// another, rotate_left, sums of words, div_ceil; bounded copies and fills. Definitions in specs/, laws for the crates
+// above in proofs/.
 #![tactic(auto)]
 
 ghost use Rattle.std.specs.Prelude.{◌≡◌, ◌+◌, ◌-◌, ◌/◌, ◌%◌, ◌^◌, bit_xor};
@@ -8,8 +9,8 @@ ghost use Rattle.words.specs.Lists.{zip_with};
 ghost use Rattle.words.specs.Word.{◌⋘◌};
 ghost use Rattle.words.specs.Promise.{Copied, Filled};
 
-// What `xor_each`, and `select` and `ct_eq` of masks, need of a type. `xor` is not the library's `BitXor`, which says what
-// it gives by a relation: the contract of `xor_each` is an equation, and needs a function.
+// What `xor_each`, and `select` and `ct_eq` of masks, need of a type. `xor` is not the library's `BitXor`, which says
+// what it gives by a relation: the contract of `xor_each` is an equation, and needs a function.
 pub trait Bits: Copy + Ord {
     ghost none: { Self };
 
@@ -26,6 +27,7 @@ pub trait Bits: Copy + Ord {
         ensures { result ≡ chosen choice none self };
 }
 
+// An impl for each type, written out: the gate refuses one that a macro of the repository writes.
 impl Bits for u8 {
     ghost none = { 0 };
 
@@ -68,7 +70,8 @@ impl Bits for usize {
     }
 }
 
-// Each element of a with that of b. By the index of one: after a `zip` of `iter_mut` nothing is known of what was written.
+// Each element of a with that of b. By the index of one: after a `zip` of `iter_mut` nothing is known of what was
+// written.
 pub fn xor_each<T: Bits, const N: usize>(a: [T; N], b: [T; N]) -> [T; N]
     ensures { result ≡ zip_with T.xored a b }
 {
@@ -86,7 +89,7 @@ pub fn rotate_left(x: u32, n: u32) -> u32
     x.rotate_left(n)
 }
 
-// The sum of three words modulo 2^32.
+// The sum of three words modulo 2^32. SM3's round has sums of three and of four: over a slice it would be a loop.
 pub fn wrapping_add3(x: u32, y: u32, z: u32) -> u32
     ensures { result ≡ (x + y + z) % 2 ^ 32 }
 {
@@ -100,7 +103,7 @@ pub fn wrapping_add4(w: u32, x: u32, y: u32, z: u32) -> u32
     wrapping_add3(w, x, y).wrapping_add(z)
 }
 
-// a / b rounded up; 0 where b is 0.
+// a / b rounded up; 0 where b is 0. The crates above divide by written numbers, by the method: this is for other users.
 pub fn div_ceil(a: usize, b: usize) -> usize
     ensures { result ≡ (a + (b - 1)) / b }
 {
