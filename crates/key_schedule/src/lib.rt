@@ -108,8 +108,7 @@ fn inputs_right(secret: &[u8], client_random: &[u8], server_random: &[u8]) -> bo
         && server_random.len() == RANDOM_LEN
 }
 
-// The master secret from the pre-master secret, the client's random first. This and `derive_key_block` are public by
-// name, and promise other sizes; what they share is `inputs_right` and `Expansion`.
+// The master secret from the pre-master secret, the client's random first.
 pub fn derive_master_secret(
     pre_master: &[u8],
     client_random: &[u8],

@@ -46,8 +46,8 @@ pub struct RecordKeysCbc {
     pub enc_key: [u8; 16],
 }
 
-// The keys that start at mac and at enc in the key block; refused where it has another length. Copied, as `array` of
-// border does.
+// The keys that start at mac and at enc in the key block; refused where it has another length. Copied, as `array` of border
+// does.
 fn half_at(key_block: &[u8], mac: usize, enc: usize) -> Result<RecordKeysCbc, Refusal>
     requires { (mac + 32 ≤ cbc_key_block_len) × (enc + 16 ≤ cbc_key_block_len) }
     ensures { half_by result ≡ halved_by (keys_at mac enc) key_block.now }
@@ -63,8 +63,7 @@ fn half_at(key_block: &[u8], mac: usize, enc: usize) -> Result<RecordKeysCbc, Re
 }
 
 impl RecordKeysCbc {
-    // The client's keys: bytes 0..32 for the MAC, 64..80 for the cipher. A key block of another length is refused. The
-    // two halves are public by name, and `half_at` is what they share.
+    // The client's keys: bytes 0..32 for the MAC, 64..80 for the cipher. A key block of another length is refused.
     pub fn client_half(key_block: &[u8]) -> Result<RecordKeysCbc, Refusal>
         ensures { half_by result ≡ halved_by client_keys key_block.now }
     {

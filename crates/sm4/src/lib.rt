@@ -106,7 +106,6 @@ fn tau(a: u32) -> u32
     big_endian::u32_from_be_bytes(select4(a0, a1, a2, a3))
 }
 
-// L and L', each a line of the standard, by its own name.
 fn l_round(b: u32) -> u32
     ensures { result ≡ L b }
 {

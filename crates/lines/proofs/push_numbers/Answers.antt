@@ -47,11 +47,5 @@ push_numeral-requires-3-clause-room c =
 pub returns : goal.returns
 unfolding numbers
 returns c =
-    rw (
-      c.push_numeral-3.ensures,
-      c.push_numeral-2.ensures,
-      c.push_numeral.ensures,
-      c.requires,
-      c.from.ensures,
-      append_assoc (numeral c.args.a SPACE) (numeral c.args.b SPACE) (numeral c.args.c NEWLINE),
-    )
+    rw (c.push_numeral-3.ensures, c.push_numeral-2.ensures, c.push_numeral.ensures, c.requires, c.from.ensures)
+    (append_assoc (numeral c.args.a SPACE) (numeral c.args.b SPACE) (numeral c.args.c NEWLINE))
