@@ -1,17 +1,15 @@
 -- The digits of a number: the last one behind those of a tenth of it. Assumes nothing.
 use mathlib.Core.Bool.{Bool, true, false, cond}
-use mathlib.Core.List.{List, [], ◌∷◌, ◌++◌, foldl, foldl-append, append-nil, append_assoc}
+use mathlib.Core.List.{List, [], ◌∷◌, ◌++◌, foldl, foldl-append}
 use mathlib.Core.Path.{◌≡◌, refl, ap, ◌∙◌}
 use Prim.Native.Nat.{ℕ, zero, suc, ◌+◌, ◌-◌, ◌*◌, ◌/◌, ◌%◌, ◌^◌, ◌≤◌, ◌<◌}
 use native.Mathlib.Nat.{pow-succ'}
 use native.Mathlib.Omega.{arith}
-use borrow.Author.Tests.{lt-ltb, le-ltb, ltb-true, ltb-false, eq-eqb, eqb-true, eqb-false}
+use borrow.Author.Tests.{lt-ltb, le-ltb, ltb-true, ltb-false}
 use lib.Dec.{ltb}
 use lib.ListN.{length, get_or, length-append, get_or-append}
 use lib.Seq.{get_or_at}
-use Rattle.std.specs.Prelude.{nat_eq}
-use Rattle.std.specs.Fmt.{digits as std_digits, digit_glyph, digits_onto, decimal as std_decimal}
-use Rattle.lines.specs.Text.{digit, digits, decimal, numeral}
+use Rattle.lines.specs.Text.{digit, digits, decimal}
 
 -- no more are found than there are, however many are asked for
 digits_enough : (k j n : ℕ) → n < k → n < j → digits k n ≡ digits j n
@@ -55,39 +53,6 @@ decimal-short (suc m) n h = by (ltb n 10) refl (decimal-short m (n / 10))
         let b : 10 ≤ n = ltb-false n 10 e in
         let p : n / 10 < 10 ^ suc m = omega (arith, pow-succ' 10 (suc m)) in
         omega (arith, length_more n b, ih p)
-
--- ---- the library's digits
-
--- each is the definition's
-glyph-digit : (d : ℕ) → d < 10 → digit_glyph false d ≡ digit d
-glyph-digit d h = rw (lt-ltb d 10 h)
-
--- they are put in front one by one, the last one first
-digits_onto-decimal : (k n : ℕ) (l : List ℕ) → n < 10 ^ suc k → digits_onto (suc k) 10 false n l ≡ decimal n ++ l
-digits_onto-decimal zero n l h =
-    rw (eq-eqb (n / 10) 0 (omega arith), glyph-digit (n % 10) (omega arith), decimal-one n (omega arith))
-digits_onto-decimal (suc k) n l h = by (nat_eq (n / 10) 0) refl (digits_onto-decimal k (n / 10))
-  where
-    by : (t : Bool) → nat_eq (n / 10) 0 ≡ t
-        → ((m : List ℕ) → n / 10 < 10 ^ suc k → digits_onto (suc k) 10 false (n / 10) m ≡ decimal (n / 10) ++ m)
-        → digits_onto (suc (suc k)) 10 false n l ≡ decimal n ++ l
-    by true e ih =
-        let b : n / 10 ≡ 0 = eqb-true (n / 10) 0 e in
-        rw (e, glyph-digit (n % 10) (omega arith), decimal-one n (omega arith))
-    by false e ih =
-        let b : 10 ≤ n = omega (arith, eqb-false (n / 10) 0 e) in
-        let p : n / 10 < 10 ^ suc k = omega (arith, pow-succ' 10 (suc k)) in
-        rw (e, glyph-digit (n % 10) (omega arith), decimal-more n b, append_assoc) (ih (digit (n % 10) ∷ l) p)
-
--- a number and the byte behind it are the library's digits of it, and that byte
-pub numeral-digits : (n mark : ℕ) → n < 2 ^ 64 → numeral n mark ≡ std_decimal n ++ (mark ∷ [])
-unfolding numeral std_digits
-numeral-digits n mark h =
-    rw (digits_onto-decimal 63 n [] (omega arith), append-nil)
-
--- so it is one byte longer than they are
-pub length-numeral-digits : (n mark : ℕ) → n < 2 ^ 64 → length (numeral n mark) ≡ length (std_decimal n) + 1
-length-numeral-digits n mark h = ap length (numeral-digits n mark h) ∙ length-append (std_decimal n) (mark ∷ [])
 
 -- ---- what the digits are
 

@@ -6,13 +6,11 @@ use Prim.Native.Nat.{ℕ, ◌<◌}
 use native.Mathlib.Omega.{arith}
 use lib.Dec.{eqb}
 use lib.ListN.{replicate}
-use Rattle.std.specs.Prelude.{Result, Ok, Err}
-use Rattle.answers.specs.declared.Refusal.{Refusal}
 use Rattle.sizes.specs.Sizes.{size_answer, mac_steps, total_steps}
 use Rattle.lines.specs.Hexadecimal.{is_hex, all_hex}
 use Rattle.lines.specs.Input.{NEWLINE, front, last, lines_from, lines}
 use Rattle.lines.specs.Reading.{MOST}
-use Rattle.lines.specs.Judgement.{max_line_len, steps_of, sized, judgement, judged}
+use Rattle.lines.specs.Judgement.{max_line_len, sized, judgement, judged}
 use Rattle.lines.specs.Text.{digits, decimal, numeral, numbers, text_of, printed}
 use Rattle.lines.specs.declared.Judged.{Judged}
 
@@ -64,21 +62,19 @@ lines-last l h = lines_from-last [] l h
 pub limit_counted : max_line_len < MOST
 limit_counted = omega arith
 
--- two digits to a byte: the record's length, and its steps or why its size is refused
-abbrev pub shown : ℕ → Result ℕ Refusal → Judged
-shown r total = Judged.Sized r total
+-- two digits to a byte, and the three numbers of a line
+abbrev pub shown : ℕ → ℕ → ℕ → Judged
+shown r answer total = Judged.Sized r answer total
 
 -- `long` goes before `bad`; a record is judged by its size alone
 pub figures :
     (judgement max_line_len 33001 true ≡ Judged.Long) × (judgement max_line_len 33001 false ≡ Judged.Long)
     × (judgement max_line_len 33000 false ≡ Judged.Bad) × (judgement max_line_len 32999 true ≡ Judged.Bad)
-    × (judgement max_line_len 33000 true ≡ shown 16500 (Err Refusal.Ragged))
-    × (judgement max_line_len 0 true ≡ shown 0 (Err Refusal.Short))
-    × (judgement max_line_len 126 true ≡ shown 63 (Err Refusal.Short)) × (judgement max_line_len 128 true ≡ shown 64 (Ok 8))
-    × (judgement max_line_len 32896 true ≡ shown 16448 (Ok 1288))
-    × (judgement max_line_len 32898 true ≡ shown 16449 (Err Refusal.Ragged))
-    × (judgement max_line_len 32928 true ≡ shown 16464 (Err Refusal.TooBig))
-unfolding judgement sized steps_of size_answer mac_steps total_steps
+    × (judgement max_line_len 33000 true ≡ shown 16500 4 0) × (judgement max_line_len 0 true ≡ shown 0 3 0)
+    × (judgement max_line_len 126 true ≡ shown 63 3 0) × (judgement max_line_len 128 true ≡ shown 64 0 8)
+    × (judgement max_line_len 32896 true ≡ shown 16448 0 1288) × (judgement max_line_len 32898 true ≡ shown 16449 4 0)
+    × (judgement max_line_len 32928 true ≡ shown 16464 5 0)
+unfolding judgement sized size_answer mac_steps total_steps
 figures = (refl, refl, refl, refl, refl, refl, refl, refl, refl, refl, refl)
 
 -- ---- bytes
@@ -94,7 +90,7 @@ decimals = (refl, refl, refl, refl)
 pub texts :
     (text_of Judged.Long ≡ 0x6c ∷ 0x6f ∷ 0x6e ∷ 0x67 ∷ 0x0a ∷ [])
     × (text_of Judged.Bad ≡ 0x62 ∷ 0x61 ∷ 0x64 ∷ 0x0a ∷ [])
-    × (text_of (shown 63 (Err Refusal.Short)) ≡ 0x36 ∷ 0x33 ∷ 0x20 ∷ 0x33 ∷ 0x20 ∷ 0x30 ∷ 0x0a ∷ [])
+    × (text_of (shown 63 3 0) ≡ 0x36 ∷ 0x33 ∷ 0x20 ∷ 0x33 ∷ 0x20 ∷ 0x30 ∷ 0x0a ∷ [])
 unfolding text_of numbers numeral decimal digits
 texts = (refl, refl, refl)
 
@@ -106,9 +102,8 @@ abbrev pub example_input : List ℕ
 example_input = (0x30 ∷ 0x31 ∷ 0x30 ∷ 0x31 ∷ NEWLINE ∷ []) ++ (zeros 128 ++ (zeros 130 ++ (NEWLINE ∷ [])))
 
 -- its judgements
-pub example : map (judged max_line_len) (lines example_input)
-    ≡ shown 2 (Err Refusal.Short) ∷ shown 64 (Ok 8) ∷ shown 65 (Err Refusal.Ragged) ∷ shown 0 (Err Refusal.Short) ∷ []
-unfolding lines lines_from last judged all_hex is_hex judgement sized steps_of size_answer mac_steps total_steps
+pub example : map (judged max_line_len) (lines example_input) ≡ shown 2 3 0 ∷ shown 64 0 8 ∷ shown 65 4 0 ∷ shown 0 3 0 ∷ []
+unfolding lines lines_from last judged all_hex is_hex judgement sized size_answer mac_steps total_steps
 example = refl
 
 -- and its whole output, line by line: 2 3 0, 64 0 8, 65 4 0, 0 3 0

@@ -1,6 +1,7 @@
 mod Scans
 mod Front
 mod Sizes
+mod Writing
 pub mod Parts
 pub mod Steps
 pub mod Chunks

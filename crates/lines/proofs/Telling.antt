@@ -3,13 +3,12 @@ use mathlib.Core.Bool.{Bool, true, false, cond}
 use mathlib.Core.List.{List, [], ◌∷◌, ◌++◌, map}
 use mathlib.Core.Path.{◌≡◌, refl, sym, ap, ◌∙◌}
 use Prim.Native.Nat.{ℕ, ◌+◌, ◌*◌, ◌≤◌, ◌<◌}
-use native.Mathlib.Nat.{add-zero}
 use native.Mathlib.Omega.{arith}
 use borrow.Author.Tests.{lt-ltb, le-ltb}
-use lib.ListN.{length, drop, length-append, take-append-drop}
+use lib.ListN.{length, drop, length-append}
 use Rattle.std.specs.Prelude.{Ok}
 use Rattle.words.specs.Lists.{put}
-use Rattle.words.proofs.Lists.{length-put, put-fits}
+use Rattle.words.proofs.Lists.{length-put}
 use Rattle.words.proofs.Puts.{put-put}
 use Rattle.lines.specs.Judgement.{max_line_len, judged_line}
 use Rattle.lines.specs.Promise.{JudgedPut, ChunkTold, LastTold}
@@ -22,6 +21,7 @@ use Rattle.lines.specs.declared.Line.{Line}
 use Rattle.lines.specs.declared.Step.{Step}
 use Rattle.lines.proofs.Steps.{by_step, left_of, begun_advance, finished_advance, advance_moves}
 use Rattle.lines.proofs.Texts.{chunk_short, last-text, line_short}
+use Rattle.lines.proofs.Writing.{put_nothing}
 
 -- ---- one step
 
@@ -37,10 +37,6 @@ step-text line l h =
         ≡ ended_text s ++ chunk_text (next_line s) (left_of s l)
     by (Step.Ended k used) = refl
     by (Step.Begun k) = refl
-
--- nothing laid changes nothing
-put_nothing : (at : ℕ) (o : List ℕ) → at ≤ length o → put at [] o ≡ o
-put_nothing at o h = put-fits at [] o (omega arith) ∙ rw (add-zero at) (take-append-drop at o)
 
 -- ---- a loop of steps
 

@@ -7,14 +7,12 @@ use native.Mathlib.Omega.{arith}
 use borrow.Author.Tests.{ltb-false}
 use lib.Dec.{eqb, ltb}
 use lib.ListN.{length, length-append}
-use Rattle.std.specs.Prelude.{Result, Ok, Err}
-use Rattle.answers.specs.Answers.{Done, Short, Ragged, TooBig, number_of}
-use Rattle.answers.specs.declared.Refusal.{Refusal}
+use Rattle.answers.specs.Answers.{Done, Short, Ragged, TooBig}
 use Rattle.record.specs.Limits.{iv_len}
 use Rattle.sizes.specs.Sizes.{min_record, max_body, size_answer, mac_steps, total_steps}
 use Rattle.lines.specs.Input.{NEWLINE}
-use Rattle.lines.specs.Judgement.{max_line_len, Sized, Long, kind_of, record_len_of, answer_of, total_or_0, total_of}
-use Rattle.lines.specs.Judgement.{size_refusal, steps_of, sized, judgement, judged_line}
+use Rattle.lines.specs.Judgement.{max_line_len, Sized, Long, kind_of, record_len_of, answer_of, total_of}
+use Rattle.lines.specs.Judgement.{sized, judgement, judged_line}
 use Rattle.lines.specs.Reading.{fresh, taken, finished, at_end, is_begun}
 use Rattle.lines.specs.Telling.{most_text, chunk_text, last_text}
 use Rattle.lines.specs.Text.{decimal, long, bad, numeral, numbers, text_of, printed}
@@ -28,31 +26,9 @@ use Rattle.lines.proofs.Decimal.{decimal-short}
 pub text_of-values : (j : Judged) → text_of j
     ≡ cond (eqb (kind_of j) Sized) (numbers (record_len_of j) (answer_of j) (total_of j)) (cond (eqb (kind_of j) Long) long bad)
 unfolding text_of
-text_of-values (Judged.Sized r total) = refl
+text_of-values (Judged.Sized r answer total) = refl
 text_of-values Judged.Long = refl
 text_of-values Judged.Bad = refl
-
--- the size answer by its three tests
-abbrev size_by : Bool → Bool → Bool → ℕ
-size_by s t u = cond s Short (cond t (cond u TooBig Done) Ragged)
-
--- and what is said by the answer
-abbrev steps_by : ℕ → ℕ → Result ℕ Refusal
-steps_by r n = cond (eqb n Done) (Ok (total_steps (r - iv_len))) (Err (size_refusal n))
-
--- of a record of r bytes the answer is the size answer, and the total is T, or 0 where the size is refused
-pub sized-values : (r : ℕ)
-    → (answer_of (sized r) ≡ size_answer r) × (total_of (sized r) ≡ cond (eqb (size_answer r) Done) (total_steps (r - iv_len)) 0)
-unfolding sized steps_of size_answer
-sized-values r = by (ltb r min_record) (eqb ((r - iv_len) % 16) 0) (ltb max_body (r - iv_len))
-  where
-    by : (s t u : Bool)
-        → (number_of (steps_by r (size_by s t u)) ≡ size_by s t u)
-        × (total_or_0 (steps_by r (size_by s t u)) ≡ cond (eqb (size_by s t u) Done) (total_steps (r - iv_len)) 0)
-    by true t u = (refl, refl)
-    by false true true = (refl, refl)
-    by false true false = (refl, refl)
-    by false false u = (refl, refl)
 
 -- ---- lengths
 
@@ -72,25 +48,29 @@ pub numbers-short : (a b c : ℕ) → a < 10 ^ 20 → b < 10 ^ 3 → c < 10 ^ 20
 numbers-short a b c h i j =
     omega (arith, length-numbers a b c, decimal-short 19 a h, decimal-short 2 b i, decimal-short 19 c j)
 
--- the answer of a result is one digit
-pub number_short : (t : Result ℕ Refusal) → number_of t < 10 ^ 3
-number_short (Ok n) = omega arith
-number_short (Err Refusal.TooLong) = omega arith
-number_short (Err Refusal.NoRoom) = omega arith
-number_short (Err Refusal.Short) = omega arith
-number_short (Err Refusal.Ragged) = omega arith
-number_short (Err Refusal.TooBig) = omega arith
-number_short (Err Refusal.BadRecord) = omega arith
-number_short (Err Refusal.BadState) = omega arith
-number_short (Err Refusal.Ended) = omega arith
-number_short (Err Refusal.WrongSize) = omega arith
+-- a text has room, whatever its kind
+pub text-short : (j : Judged) → record_len_of j < 10 ^ 20 → answer_of j < 10 ^ 3 → total_of j < 10 ^ 20
+    → length (text_of j) ≤ most_text
+unfolding text_of
+text-short (Judged.Sized r answer total) a b c = numbers-short r answer total a b c
+text-short Judged.Long a b c = omega arith
+text-short Judged.Bad a b c = omega arith
+
+-- an answer is one digit
+answer_small : (r : ℕ) → size_answer r < 10 ^ 3
+unfolding size_answer
+answer_small r = by (ltb r min_record) (eqb ((r - iv_len) % 16) 0) (ltb max_body (r - iv_len))
+  where
+    by : (s t u : Bool) → cond s Short (cond t (cond u TooBig Done) Ragged) < 10 ^ 3
+    by true t u = omega arith
+    by false true true = omega arith
+    by false true false = omega arith
+    by false false u = omega arith
 
 -- a record that comes from a line is short enough to have few steps
 sized-short : (r : ℕ) → r ≤ max_line_len → length (text_of (sized r)) ≤ most_text
-unfolding sized text_of total_steps mac_steps
-sized-short r h =
-    numbers-short r (number_of (steps_of r)) (total_or_0 (steps_of r)) (omega arith) (number_short (steps_of r))
-    (rw (sized-values r).1 (by (eqb (size_answer r) Done)))
+unfolding sized total_steps mac_steps
+sized-short r h = text-short (sized r) (omega arith) (answer_small r) (by (eqb (size_answer r) Done))
   where
     by : (t : Bool) → cond t (total_steps (r - iv_len)) 0 < 10 ^ 20
     by true = omega arith

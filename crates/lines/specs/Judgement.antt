@@ -1,6 +1,6 @@
 -- What is said of a line. Assumes nothing.
 use Rattle.std.specs.Prelude.{Bool, cond, List, ℕ, ◌-◌, ◌/◌, ◌%◌, Result, Ok, Err, eqb, ltb, length}
-use Rattle.answers.specs.Answers.{Done, Short, Ragged, number_of}
+use Rattle.answers.specs.Answers.{Done, Short, Ragged}
 use Rattle.answers.specs.declared.Refusal.{Refusal}
 use Rattle.record.specs.Limits.{iv_len}
 use Rattle.sizes.specs.Sizes.{size_answer, total_steps}
@@ -24,30 +24,25 @@ Bad = 2
 
 -- the number of what is said
 abbrev pub kind_of : Judged → ℕ
-kind_of (Judged.Sized r total) = Sized
+kind_of (Judged.Sized r answer total) = Sized
 kind_of Judged.Long = Long
 kind_of Judged.Bad = Bad
 
 -- and its values: the record's length, 0 where no size is given
 abbrev pub record_len_of : Judged → ℕ
-record_len_of (Judged.Sized r total) = r
+record_len_of (Judged.Sized r answer total) = r
 record_len_of Judged.Long = 0
 record_len_of Judged.Bad = 0
 
 -- its size answer, 0 where no size is given
 abbrev pub answer_of : Judged → ℕ
-answer_of (Judged.Sized r total) = number_of total
+answer_of (Judged.Sized r answer total) = answer
 answer_of Judged.Long = Done
 answer_of Judged.Bad = Done
 
--- T, 0 where the size is refused
-abbrev pub total_or_0 : Result ℕ Refusal → ℕ
-total_or_0 (Ok total) = total
-total_or_0 (Err why) = 0
-
 -- T, 0 where the size is refused or none is given
 abbrev pub total_of : Judged → ℕ
-total_of (Judged.Sized r total) = total_or_0 total
+total_of (Judged.Sized r answer total) = total
 total_of Judged.Long = 0
 total_of Judged.Bad = 0
 
@@ -59,9 +54,9 @@ size_refusal n = cond (eqb n Short) Refusal.Short (cond (eqb n Ragged) Refusal.R
 unfoldable pub steps_of : ℕ → Result ℕ Refusal
 steps_of r = cond (eqb (size_answer r) Done) (Ok (total_steps (r - iv_len))) (Err (size_refusal (size_answer r)))
 
--- the length of a record of r bytes, and T, or why its size is refused
+-- the length of a record of r bytes, its size answer, and T, or 0 if it is refused
 unfoldable pub sized : ℕ → Judged
-sized r = Judged.Sized r (steps_of r)
+sized r = Judged.Sized r (size_answer r) (cond (eqb (size_answer r) Done) (total_steps (r - iv_len)) 0)
 
 -- by the number of characters and whether each is a digit: `long` first, two digits to a byte else
 unfoldable pub judgement : ℕ → ℕ → Bool → Judged

@@ -1,8 +1,7 @@
 -- The text that is printed of a judgement, byte by byte. Assumes nothing.
-use Rattle.std.specs.Prelude.{cond, List, [], ◌∷◌, ◌++◌, ℕ, zero, suc, ◌+◌, ◌/◌, ◌%◌, ltb}
-use Rattle.answers.specs.Answers.{number_of}
+use Rattle.std.specs.Prelude.{cond, List, [], ◌∷◌, ◌++◌, ◌≡◌, ℕ, zero, suc, ◌+◌, ◌/◌, ◌%◌, ltb, length}
+use Rattle.words.specs.Lists.{put}
 use Rattle.lines.specs.Input.{NEWLINE}
-use Rattle.lines.specs.Judgement.{total_or_0}
 use Rattle.lines.specs.declared.Judged.{Judged}
 
 abbrev pub SPACE : ℕ
@@ -39,7 +38,7 @@ numbers a b c = numeral a SPACE ++ (numeral b SPACE ++ numeral c NEWLINE)
 
 -- of one judgement: the record's length, its size answer and T, or a word
 unfoldable pub text_of : Judged → List ℕ
-text_of (Judged.Sized r total) = numbers r (number_of total) (total_or_0 total)
+text_of (Judged.Sized r answer total) = numbers r answer total
 text_of Judged.Long = long
 text_of Judged.Bad = bad
 
@@ -47,3 +46,8 @@ text_of Judged.Bad = bad
 unfoldable pub printed : List Judged → List ℕ
 printed [] = []
 printed (j ∷ js) = text_of j ++ printed js
+
+-- a text laid over out from index at on, and the index behind it
+pub record PutAt (text out : List ℕ) (at end : ℕ) (out' : List ℕ) : Type 0 where
+  pub behind : end ≡ at + length text
+  pub laid : out' ≡ put at text out

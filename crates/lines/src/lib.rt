@@ -4,18 +4,16 @@
 // read. Nothing here is secret.
 #![tactic(auto)]
 
-ghost use Rattle.std.specs.Prelude.{◌≡◌, [], ◌++◌, ◌+◌, ◌<◌, ◌≤◌, length};
+ghost use Rattle.std.specs.Prelude.{◌≡◌, ◌∷◌, [], ◌+◌, ◌<◌, ◌≤◌, length};
 ghost use Rattle.lines.specs.Hexadecimal.{is_hex, all_hex};
 ghost use Rattle.lines.specs.Input.{front};
 ghost use Rattle.lines.specs.Reading.{fresh, taken, advanced, is_begun};
-ghost use Rattle.lines.specs.Judgement.{max_line_len, steps_of, judged_line};
-ghost use Rattle.lines.specs.Text.{numeral, numbers, text_of};
+ghost use Rattle.lines.specs.Judgement.{max_line_len, steps_of, sized, judged_line};
+ghost use Rattle.lines.specs.Text.{decimal, numeral, numbers, text_of, PutAt};
 ghost use Rattle.lines.specs.Telling.{most_text};
 ghost use Rattle.lines.specs.Promise.{JudgedPut, ChunkTold, LastTold};
 
-use answers::{DONE, Refusal};
-use arrayvec::ArrayString;
-use itoa::Buffer;
+use answers::Refusal;
 use record::IV_LEN;
 
 // A line so far: how many characters, counted no further than a usize goes, and whether each is a lower-case digit.
@@ -112,10 +110,12 @@ pub const MAX_LINE: usize = 33000;
 // What is said of a line: that it is a record of some size, or too long, or no record in hexadecimal.
 #[derive(Clone, Copy, Debug, PartialEq, Eq)]
 pub enum Judged {
-    // The record's length, and the steps that opening it takes, or why its size is refused.
+    // The record's length, its size answer, and the steps that opening it takes, 0 where the size is refused.
+    // Numbers, as they are printed: any answer is printed beside any total.
     Sized {
         record_len: usize,
-        total: Result<usize, Refusal>,
+        answer: u8,
+        total: usize,
     },
     Long,
     Bad,
@@ -130,8 +130,21 @@ fn steps_of(record_len: usize) -> Result<usize, Refusal>
     Ok(sizes::total_steps(record_len - IV_LEN))
 }
 
+// A line of two digits for each of record_len bytes.
+#[tactic(auto, unfolding(crate::specs::Judgement::sized), using(crate::proofs::Sizes::said))]
+fn sized_line(record_len: usize) -> Judged
+    ensures { result ≡ sized record_len }
+{
+    let total = steps_of(record_len);
+    Judged::Sized {
+        record_len,
+        answer: answers::number_of(total),
+        total: total.unwrap_or(0),
+    }
+}
+
 // A whole line, judged: over the limit it is `Long`, whatever it holds.
-#[tactic(auto, unfolding(crate::specs::Judgement::judgement, crate::specs::Judgement::sized))]
+#[tactic(auto, unfolding(crate::specs::Judgement::judgement))]
 pub fn judge(line: Line, max_line: usize) -> Judged
     ensures { result ≡ judged_line max_line line }
 {
@@ -141,11 +154,7 @@ pub fn judge(line: Line, max_line: usize) -> Judged
     if line.count % 2 != 0 || !line.hex {
         return Judged::Bad;
     }
-    let record_len = line.count / 2;
-    Judged::Sized {
-        record_len,
-        total: steps_of(record_len),
-    }
+    sized_line(line.count / 2)
 }
 
 // A whole line, judged by the limit of `lengths`.
@@ -158,45 +167,71 @@ pub fn judge_line(line: Line) -> Judged
 // The most bytes of a text: 20, 3 and 20 digits, two spaces and a newline.
 pub const MOST_TEXT: usize = 46;
 
-// A number and one character more, behind the text so far.
-fn push_numeral(text: &mut ArrayString<MOST_TEXT>, n: usize, mark: char)
-    requires ascii { mark < 128 }
-    requires room { length text.old.bytes + length (numeral n mark) ≤ most_text }
-    ensures { text.new.bytes ≡ text.old.bytes ++ numeral n mark }
+// One byte at an index, and the next index.
+fn put_byte(byte: u8, out: &mut [u8], at: usize) -> usize
+    requires { at < length out.old }
+    ensures { PutAt (byte ∷ []) out.old at result out.new }
 {
-    text.push_str(Buffer::new().format(n));
-    text.push(mark);
+    out[at] = byte;
+    at + 1
 }
 
-// Three numbers with a space between them and a newline behind.
-fn push_numbers(text: &mut ArrayString<MOST_TEXT>, a: usize, b: u8, c: usize)
-    requires { text.old.bytes ≡ [] }
-    ensures { text.new.bytes ≡ numbers a b c }
+// The digits of n from an index on, the highest first, and the index behind them. Written out, and not by a library
+// beside std: so all that is printed is proved here.
+fn put_decimal(n: usize, out: &mut [u8], at: usize) -> usize
+    requires { at + length (decimal n) ≤ length out.old }
+    ensures { PutAt (decimal n) out.old at result out.new }
 {
-    push_numeral(text, a, ' ');
-    push_numeral(text, usize::from(b), ' ');
-    push_numeral(text, c, '\n');
+    let last = (n % 10) as u8;
+    if n < 10 {
+        return put_byte(b'0' + last, out, at);
+    }
+    let end = put_decimal(n / 10, out, at);
+    put_byte(b'0' + last, out, end)
 }
 
-// The text of a judgement: three numbers, or a word, and a newline.
-#[tactic(auto, unfolding(crate::specs::Text::text_of))]
-fn text_of(judged: Judged) -> ArrayString<MOST_TEXT>
-    ensures { result.bytes ≡ text_of judged }
+// A number and one byte more from an index on, and the index behind them.
+fn put_numeral(n: usize, mark: u8, out: &mut [u8], at: usize) -> usize
+    requires { at + length (decimal n) < length out.old }
+    ensures { PutAt (numeral n mark) out.old at result out.new }
 {
-    let mut text = ArrayString::new();
+    let end = put_decimal(n, out, at);
+    put_byte(mark, out, end)
+}
+
+// Three numbers with a space between them and a newline behind, and how many bytes they take.
+fn put_numbers(a: usize, b: usize, c: usize, out: &mut [u8]) -> usize
+    requires { length (numbers a b c) ≤ length out.old }
+    ensures { PutAt (numbers a b c) out.old 0 result out.new }
+{
+    let first = put_numeral(a, b' ', out, 0);
+    let second = put_numeral(b, b' ', out, first);
+    put_numeral(c, b'\n', out, second)
+}
+
+// A word, and how many bytes it takes.
+fn put_word(word: &[u8], out: &mut [u8]) -> usize
+    ensures { PutAt word.now out.old 0 result out.new }
+{
+    words::copy_at(out, 0, word);
+    word.len()
+}
+
+// The text of a judgement, in front, and how many bytes it takes.
+fn put_text(judged: Judged, out: &mut [u8]) -> usize
+    requires { most_text ≤ length out.old }
+    ensures laid { PutAt (text_of judged) out.old 0 result out.new }
+    ensures room { result ≤ most_text }
+{
     match judged {
         Judged::Sized {
             record_len,
-            total: Ok(total),
-        } => push_numbers(&mut text, record_len, DONE, total),
-        Judged::Sized {
-            record_len,
-            total: Err(why),
-        } => push_numbers(&mut text, record_len, why.number(), 0),
-        Judged::Long => text.push_str("long\n"),
-        Judged::Bad => text.push_str("bad\n"),
+            answer,
+            total,
+        } => put_numbers(record_len, usize::from(answer), total, out),
+        Judged::Long => put_word(b"long\n", out),
+        Judged::Bad => put_word(b"bad\n", out),
     }
-    text
 }
 
 // The text of a judgement, laid over out from index at on, as much of it as there is room for; and how many bytes it is
@@ -205,9 +240,10 @@ fn text_of(judged: Judged) -> ArrayString<MOST_TEXT>
 pub fn put_judged(judged: Judged, out: &mut [u8], at: usize) -> usize
     ensures { JudgedPut judged out.old at result out.new }
 {
-    let text = text_of(judged);
-    words::copy_at(out, at, text.as_str().as_bytes());
-    text.len()
+    let mut text = [0; MOST_TEXT];
+    let n = put_text(judged, &mut text);
+    words::copy_at(out, at, &text[..n]);
+    n
 }
 
 // What telling of a part of the input leaves: the line begun, and how many bytes of the output are written.

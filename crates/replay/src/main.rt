@@ -10,7 +10,6 @@ mod command;
 
 use answer::Answer;
 use answers::Refusal;
-use arrayvec::ArrayVec;
 use command::Command;
 use hmac::HmacSm3;
 use key_schedule::TlcpRole;
@@ -213,7 +212,7 @@ const ROOM: usize = 4097;
 // A read that fails counts as the end of the input. What is begun of a line there is answered.
 fn main(rt: HostRuntime) -> io::Result<()> {
     let alloc = rt.alloc();
-    let mut line: ArrayVec<u8, ROOM> = ArrayVec::new();
+    let mut line = Vec::with_capacity(alloc, ROOM)?;
     for byte in BufReader::new(alloc, rt.reader())?.bytes() {
         let Ok(byte) = byte else {
             break;
@@ -221,8 +220,8 @@ fn main(rt: HostRuntime) -> io::Result<()> {
         if byte == b'\n' {
             println!(rt; "{}", run(alloc, &line)?)?;
             line.clear();
-        } else if !line.is_full() {
-            line.push(byte);
+        } else if line.len() < ROOM {
+            line.push(byte)?;
         }
     }
     if !line.is_empty() {

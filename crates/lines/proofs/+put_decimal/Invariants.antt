@@ -1,0 +1,5 @@
+-- The cycle of calls {put_decimal}: the measure is the number, of which each call takes a tenth. Assumes nothing.
+use Rattle.lines.proofs.+put_decimal.Given as goal
+
+abbrev pub decreases-put_decimal : goal.decreases-put_decimal
+decreases-put_decimal l = l.n
