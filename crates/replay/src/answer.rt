@@ -1,5 +1,5 @@
 // What is printed for a line.
-use crate::buffer::Buffer;
+use crate::Buffer;
 use answers::{DONE, Refusal};
 use programs::{Hex, State};
 use sm3::Sm3;

@@ -6,12 +6,10 @@
 ghost use Rattle.std.specs.Prelude.{◌≡◌, length};
 
 mod answer;
-mod buffer;
 mod command;
 
 use answer::{Answer, ROOM};
 use answers::Refusal;
-use buffer::Buffer;
 use command::{Command, MAX_LINE};
 use hmac::HmacSm3;
 use key_schedule::TlcpRole;
@@ -22,7 +20,57 @@ use sm4::Sm4Cipher;
 use std::io;
 use std::io::Read as _;
 
-// What a line asks for, done.
+// ---- bytes
+
+// At most N bytes, in place: the program takes no memory as it runs.
+#[derive(Clone, Copy)]
+struct Buffer<const N: usize> {
+    bytes: [u8; N],
+    count: usize,
+}
+
+impl<const N: usize> Buffer<N> {
+    fn new() -> Self {
+        Self::first([0; N], 0)
+    }
+
+    // The first count of these bytes, all of them where there are fewer.
+    fn first(bytes: [u8; N], count: usize) -> Self {
+        Buffer { bytes, count }
+    }
+
+    // A copy of these bytes, as far as there is room.
+    fn of(bytes: &[u8]) -> Self {
+        let mut buffer = Self::new();
+        for &byte in bytes {
+            buffer.push(byte);
+        }
+        buffer
+    }
+
+    fn as_slice(&self) -> &[u8] {
+        &self.bytes[..self.count.min(N)]
+    }
+
+    fn is_empty(&self) -> bool {
+        self.count == 0
+    }
+
+    // One byte more, left out where there is no room.
+    fn push(&mut self, byte: u8) {
+        if self.count < N {
+            self.bytes[self.count] = byte;
+            self.count += 1;
+        }
+    }
+
+    fn clear(&mut self) {
+        self.count = 0;
+    }
+}
+
+// ---- what a line asks for, done
+
 fn run(line: &[u8]) -> Answer {
     let Ok(command) = Command::try_from(line) else {
         return Answer::Bad;
