@@ -18,7 +18,7 @@ use record::RecordKeysCbc;
 use sm3::Sm3;
 use sm4::Sm4Cipher;
 use std::io;
-use std::io::Read as _;
+use std::io::{Read as _, Write as _};
 
 // ---- bytes
 
@@ -242,11 +242,36 @@ fn finished(line: &[u8]) -> Answer {
 // A line, as far as it is read: of one that is too long one character more than a line may have.
 const LINE: usize = MAX_LINE + 1;
 
+// A pipe holds what is written in pages, and begins a new one for a write that the last has no room for. So a write ends
+// where a page of the output does: a pipe then takes as many bytes as it has room for.
+const PAGE: usize = 4096;
+
+// The most bytes of an answer with its newline: a number, a space and the bytes in hexadecimal.
+const MOST_TEXT: usize = 3 + 2 * ROOM;
+
+// Answers a line. Of the output's last page so many bytes are used, and are used then.
+fn print_answer(rt: &impl Print, line: &[u8], used: &mut usize) -> io::Result<()> {
+    let mut text = [0; MOST_TEXT];
+    let mut rest = &mut text[..];
+    writeln!(rest, "{}", run(line))?;
+    let n = MOST_TEXT.saturating_sub(rest.len());
+    let first = n.min(PAGE.saturating_sub(*used));
+    rt.write_all(&text[..first])?;
+    rt.write_all(&text[first..n])?;
+    *used = used.wrapping_add(n) % PAGE;
+    Ok(())
+}
+
 // Takes in what is read. A line that ends in it is answered.
-fn take(rt: &impl Print, line: &mut Buffer<LINE>, input: &[u8]) -> io::Result<()> {
+fn take(
+    rt: &impl Print,
+    line: &mut Buffer<LINE>,
+    input: &[u8],
+    used: &mut usize,
+) -> io::Result<()> {
     for &byte in input {
         if byte == b'\n' {
-            println!(rt; "{}", run(line.as_slice()))?;
+            print_answer(rt, line.as_slice(), used)?;
             line.clear();
         } else {
             line.push(byte);
@@ -261,7 +286,7 @@ const BLOCK: usize = 4096;
 // Reads until the input ends at the begin of a block. An end that follows some bytes of a block, as a terminal may give
 // one, begins a new block, and so does a read that fails. A proved loop has to end, and nothing says that an input
 // does: so the turns are counted, up to a number that no run uses up.
-fn read(rt: &(impl Input + Print), line: &mut Buffer<LINE>) -> io::Result<()> {
+fn read(rt: &(impl Input + Print), line: &mut Buffer<LINE>, used: &mut usize) -> io::Result<()> {
     let mut input = rt.reader();
     let mut block = [0; BLOCK];
     let mut done = 0;
@@ -270,7 +295,7 @@ fn read(rt: &(impl Input + Print), line: &mut Buffer<LINE>) -> io::Result<()> {
         if n == 0 && done == 0 {
             break;
         }
-        take(rt, line, &block[done..done + n])?;
+        take(rt, line, &block[done..done + n], used)?;
         done = if n == 0 { 0 } else { (done + n) % BLOCK };
     }
     Ok(())
@@ -279,9 +304,10 @@ fn read(rt: &(impl Input + Print), line: &mut Buffer<LINE>) -> io::Result<()> {
 // What is begun of a line at the end is answered.
 fn main(rt: HostRuntime) -> io::Result<()> {
     let mut line = Buffer::new();
-    read(&rt, &mut line)?;
+    let mut used = 0;
+    read(&rt, &mut line, &mut used)?;
     if !line.is_empty() {
-        println!(rt; "{}", run(line.as_slice()))?;
+        print_answer(&rt, line.as_slice(), &mut used)?;
     }
     Ok(())
 }
