@@ -6,30 +6,38 @@ ghost use Rattle.std.specs.Prelude.{◌≡◌, IfOk};
 
 use programs::Hex;
 use sm4::Sm4Cipher;
-use std::alloc::Global;
 use std::io;
 
+// The most bytes of a body that are taken, and where it stands behind its IV.
+const MOST: usize = 128;
+
+const IV_LEN: usize = 16;
+
 // A line: a copy of the body enciphered where it stands behind its IV. Another: what that deciphers to, block by block,
-// over bytes 0xee.
+// over bytes 0xee. Of a body above 128 bytes only (length mod 129) are taken.
 pub fn both_cbc(
     rt: &impl Print,
-    alloc: Global,
-    name: &str,
+    name: &[u8],
     cipher: Sm4Cipher,
     iv: [u8; 16],
     body: &[u8],
 ) -> io::Result<()>
     ensures { IfOk result (λ v. v ≡ tt) }
 {
-    let mut record = Vec::new(alloc);
-    record.extend_from_slice(&iv)?;
-    record.extend_from_slice(body)?;
-    cbc::encipher_cbc(cipher, iv, &mut record[16..]);
-    println!(rt; "{name}-encrypt {}", Hex(&record[16..]))?;
-    let mut out = vec![in alloc; 0xeeu8; body.len()]?;
+    let n = body.len() % (MOST + 1);
+    let mut room = [0u8; IV_LEN + MOST];
+    let record = &mut room[..IV_LEN + n];
+    record[..IV_LEN].copy_from_slice(&iv);
+    record[IV_LEN..].copy_from_slice(&body[..n]);
+    cbc::encipher_cbc(cipher, iv, &mut record[IV_LEN..]);
+    rt.write_all(name)?;
+    println!(rt; "-encrypt {}", Hex(&record[IV_LEN..]))?;
+    let mut opened = [0xeeu8; MOST];
+    let out = &mut opened[..n];
     // k is the number of a block of the body, which `decipher_block_cbc` takes
-    for k in 0..body.len() / 16 {
-        cbc::decipher_block_cbc(cipher, &record, k, &mut out);
+    for k in 0..n / 16 {
+        cbc::decipher_block_cbc(cipher, record, k, out);
     }
-    println!(rt; "{name}-decrypt {}", Hex(&out))
+    rt.write_all(name)?;
+    println!(rt; "-decrypt {}", Hex(out))
 }

@@ -2,10 +2,11 @@
 // output, one line each. The file stdout has the values of OpenSSL, which the script `expected` gathers.
 #![tactic(auto)]
 
+ghost use Rattle.std.specs.Prelude.{◌≡◌, length};
+
 use answers::{Refusal, number_of};
 use key_schedule::TlcpRole;
 use programs::{Hex, spread};
-use std::alloc::{AllocError, Global};
 use std::{fmt, io};
 
 #[derive(Clone, Copy)]
@@ -47,37 +48,44 @@ impl Derivation {
     }
 }
 
-// So many bytes of a pattern.
-fn pattern(alloc: Global, step: u8, first: u8, n: usize) -> Result<Vec<u8>, AllocError> {
-    let mut bytes = vec![in alloc; 0u8; n]?;
+// The most bytes of an input and of an output that are tried.
+const MOST_IN: usize = 64;
+
+const MOST_OUT: usize = 1025;
+
+// N bytes of a pattern.
+fn pattern<const N: usize>(step: u8, first: u8) -> [u8; N]
+    ensures { length result ≡ N }
+{
+    let mut bytes = [0; N];
     spread(step, first, &mut bytes);
-    Ok(bytes)
+    bytes
 }
 
 // A line: a derivation on inputs of these lengths and an output of n bytes, the answer, and the output or a dash for
 // none. No two inputs begin with the same byte, and the output is filled beforehand.
-fn run(
-    rt: &impl Print,
-    alloc: Global,
-    derivation: Derivation,
-    lengths: [usize; 3],
-    n: usize,
-) -> io::Result<()> {
+fn run(rt: &impl Print, derivation: Derivation, lengths: [usize; 3], n: usize) -> io::Result<()> {
     let [a, b, c] = lengths;
-    let secret = pattern(alloc, 11, 1, a)?;
-    let first = pattern(alloc, 11, 2, b)?;
-    let second = pattern(alloc, 11, 3, c)?;
-    let mut out = pattern(alloc, 7, 3, n)?;
-    let answer = number_of(derivation.derive(&secret, &first, &second, &mut out));
+    let secret = pattern::<MOST_IN>(11, 1);
+    let first = pattern::<MOST_IN>(11, 2);
+    let second = pattern::<MOST_IN>(11, 3);
+    let mut held = pattern::<MOST_OUT>(7, 3);
+    let out = &mut held[..n.min(MOST_OUT)];
+    let answer = number_of(derivation.derive(
+        &secret[..a.min(MOST_IN)],
+        &first[..b.min(MOST_IN)],
+        &second[..c.min(MOST_IN)],
+        out,
+    ));
     print!(rt; "{derivation}-{a}-{b}-{c}-{n} {answer} ")?;
     if out.is_empty() {
         println!(rt; "-")
     } else {
-        println!(rt; "{}", Hex(&out))
+        println!(rt; "{}", Hex(out))
     }
 }
 
-fn master_secrets(rt: &impl Print, alloc: Global) -> io::Result<()> {
+fn master_secrets(rt: &impl Print) -> io::Result<()> {
     for (lengths, n) in [
         ([48, 32, 32], 48),
         ([47, 32, 32], 48),
@@ -89,15 +97,15 @@ fn master_secrets(rt: &impl Print, alloc: Global) -> io::Result<()> {
         ([48, 32, 32], 47),
         ([48, 32, 32], 49),
     ] {
-        run(rt, alloc, Derivation::MasterSecret, lengths, n)?;
+        run(rt, Derivation::MasterSecret, lengths, n)?;
     }
     Ok(())
 }
 
 // Outputs of several lengths, and then inputs of wrong ones.
-fn key_blocks(rt: &impl Print, alloc: Global) -> io::Result<()> {
+fn key_blocks(rt: &impl Print) -> io::Result<()> {
     for n in [0, 1, 31, 32, 33, 40, 64, 128, 1023, 1024, 1025] {
-        run(rt, alloc, Derivation::KeyBlock, [48, 32, 32], n)?;
+        run(rt, Derivation::KeyBlock, [48, 32, 32], n)?;
     }
     for (lengths, n) in [
         ([47, 32, 32], 128),
@@ -108,12 +116,12 @@ fn key_blocks(rt: &impl Print, alloc: Global) -> io::Result<()> {
         ([48, 32, 33], 128),
         ([47, 32, 32], 0),
     ] {
-        run(rt, alloc, Derivation::KeyBlock, lengths, n)?;
+        run(rt, Derivation::KeyBlock, lengths, n)?;
     }
     Ok(())
 }
 
-fn finished(rt: &impl Print, alloc: Global) -> io::Result<()> {
+fn finished(rt: &impl Print) -> io::Result<()> {
     for (role, lengths, n) in [
         (TlcpRole::Client, [48, 32, 0], 12),
         (TlcpRole::Server, [48, 32, 0], 12),
@@ -124,14 +132,13 @@ fn finished(rt: &impl Print, alloc: Global) -> io::Result<()> {
         (TlcpRole::Client, [48, 32, 0], 11),
         (TlcpRole::Server, [48, 32, 0], 13),
     ] {
-        run(rt, alloc, Derivation::Finished(role), lengths, n)?;
+        run(rt, Derivation::Finished(role), lengths, n)?;
     }
     Ok(())
 }
 
 fn main(rt: HostRuntime) -> io::Result<()> {
-    let alloc = rt.alloc();
-    master_secrets(&rt, alloc)?;
-    key_blocks(&rt, alloc)?;
-    finished(&rt, alloc)
+    master_secrets(&rt)?;
+    key_blocks(&rt)?;
+    finished(&rt)
 }

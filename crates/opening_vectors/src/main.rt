@@ -7,8 +7,10 @@
 use made_records::{NUMBER, TYPE};
 use programs::{Hex, spread};
 use record::{IV_LEN, TLCP_RECORD_VERSION};
-use std::alloc::Global;
 use std::io;
+
+// The longest record that is made, and the most room: parts of arrays of this size, so that the program takes no heap.
+const MOST: usize = 16464;
 
 // A record and how it is opened.
 #[derive(Clone, Copy)]
@@ -47,55 +49,56 @@ impl Case {
     }
 
     // The rest of a line: the report, and the digest of the output, which held another pattern.
-    fn open(self, rt: &impl Print, alloc: Global) -> io::Result<()> {
-        let mut record = vec![in alloc; 0u8; IV_LEN + usize::from(self.n)]?;
-        made_records::lay_body(self.len, self.padlen, &mut record);
-        if let Some(byte) = record.get_mut(IV_LEN + usize::from(self.at)) {
+    fn open(self, rt: &impl Print) -> io::Result<()> {
+        let mut record = [0u8; MOST];
+        let whole = &mut record[..(IV_LEN + usize::from(self.n)).min(MOST)];
+        made_records::lay_body(self.len, self.padlen, whole);
+        if let Some(byte) = whole.get_mut(IV_LEN + usize::from(self.at)) {
             *byte ^= self.mask;
         }
-        made_records::close(&mut record);
-        record.resize(self.record_len, 0)?;
-        let mut out = vec![in alloc; 0u8; self.room]?;
-        spread(11, 5, &mut out);
+        made_records::close(whole);
+        let mut held = [0u8; MOST];
+        let out = &mut held[..self.room.min(MOST)];
+        spread(11, 5, out);
         let o = opening::deprotect_cbc(
             made_records::keys(),
             self.seq,
             self.content_type,
             self.version,
-            &record,
-            &mut out,
+            &record[..self.record_len.min(MOST)],
+            out,
         );
         println!(rt;
             " {} {} {} {}",
             o.answer,
             o.length,
             o.count,
-            Hex(&sm3::hash(&out))
+            Hex(&sm3::hash(out))
         )
     }
 }
 
 // A body of 304 bytes with each length of padding that a byte can name.
-fn every_padding(rt: &impl Print, alloc: Global) -> io::Result<()> {
+fn every_padding(rt: &impl Print) -> io::Result<()> {
     for padlen in 0..=255u8 {
         print!(rt; "padding-304-{padlen}")?;
-        Case::new(304, 271 - u16::from(padlen), padlen).open(rt, alloc)?;
+        Case::new(304, 271 - u16::from(padlen), padlen).open(rt)?;
     }
     Ok(())
 }
 
 // The longest texts that a body of the largest size holds; all but the first are longer than what is sealed.
-fn longest_texts(rt: &impl Print, alloc: Global) -> io::Result<()> {
+fn longest_texts(rt: &impl Print) -> io::Result<()> {
     for spare in 0..16u8 {
         let len = 16399 - u16::from(spare);
         print!(rt; "text-{len}-{spare}")?;
-        Case::new(16432, len, spare).open(rt, alloc)?;
+        Case::new(16432, len, spare).open(rt)?;
     }
     Ok(())
 }
 
 // Texts about as long as their bodies leave room for, with padding that may not fit.
-fn edges(rt: &impl Print, alloc: Global) -> io::Result<()> {
+fn edges(rt: &impl Print) -> io::Result<()> {
     for (n, len, padlen) in [
         (48, 15, 0),
         (48, 1, 14),
@@ -112,14 +115,14 @@ fn edges(rt: &impl Print, alloc: Global) -> io::Result<()> {
         (16432, 16144, 255),
     ] {
         print!(rt; "edge-{n}-{padlen}")?;
-        Case::new(n, len, padlen).open(rt, alloc)?;
+        Case::new(n, len, padlen).open(rt)?;
     }
     Ok(())
 }
 
 // A wrong byte in a text of 100 bytes, its MAC up to 132, and padding of 172 bytes. The last byte becomes 170, 0 (good
 // padding, and so the MAC is looked for elsewhere) and 255.
-fn wrong_bytes(rt: &impl Print, alloc: Global) -> io::Result<()> {
+fn wrong_bytes(rt: &impl Print) -> io::Result<()> {
     for (at, mask) in [
         (0, 1),
         (99, 0x80),
@@ -139,13 +142,13 @@ fn wrong_bytes(rt: &impl Print, alloc: Global) -> io::Result<()> {
             mask,
             ..Case::new(304, 100, 171)
         };
-        case.open(rt, alloc)?;
+        case.open(rt)?;
     }
     Ok(())
 }
 
 // One bit wrong in each byte of the MAC.
-fn wrong_macs(rt: &impl Print, alloc: Global, mask: u8) -> io::Result<()> {
+fn wrong_macs(rt: &impl Print, mask: u8) -> io::Result<()> {
     for i in 0..32u16 {
         print!(rt; "mac-{i}-{mask}")?;
         let case = Case {
@@ -153,13 +156,13 @@ fn wrong_macs(rt: &impl Print, alloc: Global, mask: u8) -> io::Result<()> {
             mask,
             ..Case::new(80, 20, 27)
         };
-        case.open(rt, alloc)?;
+        case.open(rt)?;
     }
     Ok(())
 }
 
 // The header that the MAC covers, and another number, type or version.
-fn other_headers(rt: &impl Print, alloc: Global) -> io::Result<()> {
+fn other_headers(rt: &impl Print) -> io::Result<()> {
     let headers = [
         (NUMBER, TYPE, [1, 1]),
         (NUMBER + 1, TYPE, [1, 1]),
@@ -174,13 +177,13 @@ fn other_headers(rt: &impl Print, alloc: Global) -> io::Result<()> {
             version,
             ..Case::new(80, 20, 27)
         };
-        case.open(rt, alloc)?;
+        case.open(rt)?;
     }
     Ok(())
 }
 
 // Records of which only so many bytes are there, or more, and rooms.
-fn sizes(rt: &impl Print, alloc: Global) -> io::Result<()> {
+fn sizes(rt: &impl Print) -> io::Result<()> {
     let small = Case::new(48, 0, 15);
     let middle = Case::new(64, 3, 28);
     let large = Case::new(16432, 16384, 15);
@@ -209,19 +212,18 @@ fn sizes(rt: &impl Print, alloc: Global) -> io::Result<()> {
             room,
             ..whole
         };
-        case.open(rt, alloc)?;
+        case.open(rt)?;
     }
     Ok(())
 }
 
 fn main(rt: HostRuntime) -> io::Result<()> {
-    let alloc = rt.alloc();
-    every_padding(&rt, alloc)?;
-    longest_texts(&rt, alloc)?;
-    edges(&rt, alloc)?;
-    wrong_bytes(&rt, alloc)?;
-    wrong_macs(&rt, alloc, 1)?;
-    wrong_macs(&rt, alloc, 128)?;
-    other_headers(&rt, alloc)?;
-    sizes(&rt, alloc)
+    every_padding(&rt)?;
+    longest_texts(&rt)?;
+    edges(&rt)?;
+    wrong_bytes(&rt)?;
+    wrong_macs(&rt, 1)?;
+    wrong_macs(&rt, 128)?;
+    other_headers(&rt)?;
+    sizes(&rt)
 }

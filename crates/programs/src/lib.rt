@@ -1,7 +1,7 @@
 // What the programs of vectors share: printing, bytes made by a rule, and states that no message leads to. No part of
 // the library. What is printed is no part of a contract, since none can say what is written to a file: the gate
 // compares each program's output with its file stdout.
-// A program's functions take `rt` and `alloc` apart: one prints, the other makes buffers, and many need only one.
+// A program keeps what it makes in arrays of a fixed size, and slices of them: it takes no heap.
 #![tactic(auto)]
 
 ghost use Rattle.std.specs.Prelude.{◌≡◌};

@@ -7,7 +7,6 @@ use answers::number_of;
 use key_schedule::TlcpRole;
 use programs::{Hex, spread};
 use record::{RecordKeysCbc, TLCP_RECORD_VERSION};
-use std::alloc::Global;
 use std::io;
 
 // What stands for the keys of a half that is refused.
@@ -44,26 +43,32 @@ fn halves(rt: &impl Print, n: u8) -> io::Result<()> {
     Ok(())
 }
 
+// The longest text and the most room that are tried: the program takes no heap.
+const MOST_TEXT: usize = 16385;
+
+const MOST_ROOM: usize = 16464;
+
 // A line: the pattern's first n bytes sealed under the keys of a role, into room bytes that held 0xee before. Its first
 // 128 bytes are the key block. The lengths of both, the answer, the record's length or 0, and all of out afterwards, or
 // its digest where it is long.
-fn seal(rt: &impl Print, alloc: Global, role: TlcpRole, n: usize, room: usize) -> io::Result<()> {
+fn seal(rt: &impl Print, role: TlcpRole, n: usize, room: usize) -> io::Result<()> {
     let mut key_block = [0u8; 128];
     spread(7, 3, &mut key_block);
     let keys = RecordKeysCbc::from_key_block(role, &key_block).unwrap_or(NO_KEYS);
     let mut iv = [0u8; 16];
     spread(15, 15, &mut iv);
-    let mut plaintext = vec![in alloc; 0u8; n]?;
-    spread(7, 3, &mut plaintext);
-    let mut out = vec![in alloc; 0xeeu8; room]?;
+    let mut m = [0u8; MOST_TEXT];
+    spread(7, 3, &mut m);
+    let mut held = [0xeeu8; MOST_ROOM];
+    let out = &mut held[..room.min(MOST_ROOM)];
     let sealed = record::protect_cbc(
         keys,
         0x0102_0304_0506_0708,
         23,
         TLCP_RECORD_VERSION,
         iv,
-        &plaintext,
-        &mut out,
+        &m[..n.min(MOST_TEXT)],
+        out,
     );
     print!(rt;
         "seal-{n}-{room} {} {} ",
@@ -71,9 +76,9 @@ fn seal(rt: &impl Print, alloc: Global, role: TlcpRole, n: usize, room: usize) -
         sealed.unwrap_or(0)
     )?;
     if room <= 96 {
-        println!(rt; "{}", Hex(&out))
+        println!(rt; "{}", Hex(out))
     } else {
-        println!(rt; "{}", Hex(&sm3::hash(&out)))
+        println!(rt; "{}", Hex(&sm3::hash(out)))
     }
 }
 
@@ -100,7 +105,7 @@ fn main(rt: HostRuntime) -> io::Result<()> {
         (TlcpRole::Client, 16385, 16464),
         (TlcpRole::Client, 16385, 0),
     ] {
-        seal(&rt, rt.alloc(), role, n, room)?;
+        seal(&rt, role, n, room)?;
     }
     Ok(())
 }

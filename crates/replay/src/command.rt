@@ -34,7 +34,7 @@ const COMMANDS: [Command; 12] = [
 ];
 
 // The most characters of a line.
-const MAX_LINE: usize = 4096;
+pub const MAX_LINE: usize = 4096;
 
 impl Command {
     fn word(self) -> &'static [u8] {

@@ -5,7 +5,6 @@
 use cbc_lines::both_cbc;
 use programs::Hex;
 use sm4::Sm4Cipher;
-use std::alloc::Global;
 use std::io;
 
 // A line: what turn makes of each block by itself.
@@ -138,16 +137,14 @@ const CBCS: [(&str, u128, u128, [u128; 2]); 4] = [
 ];
 
 // The plain blocks of each are enciphered, and what comes of them is deciphered.
-fn cbcs(rt: &impl Print, alloc: Global) -> io::Result<()> {
-    for (name, key, iv, plain) in CBCS {
-        let mut body = Vec::new(alloc);
-        for block in plain {
-            body.extend_from_slice(&block.to_be_bytes())?;
-        }
+fn cbcs(rt: &impl Print) -> io::Result<()> {
+    for (name, key, iv, [first, second]) in CBCS {
+        let mut body = [0; 32];
+        body[..16].copy_from_slice(&first.to_be_bytes());
+        body[16..].copy_from_slice(&second.to_be_bytes());
         both_cbc(
             rt,
-            alloc,
-            name,
+            name.as_bytes(),
             Sm4Cipher::new(key.to_be_bytes()),
             iv.to_be_bytes(),
             &body,
@@ -158,5 +155,5 @@ fn cbcs(rt: &impl Print, alloc: Global) -> io::Result<()> {
 
 fn main(rt: HostRuntime) -> io::Result<()> {
     ecbs(&rt)?;
-    cbcs(&rt, rt.alloc())
+    cbcs(&rt)
 }

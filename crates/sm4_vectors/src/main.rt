@@ -6,7 +6,6 @@
 use cbc_lines::both_cbc;
 use programs::{Hex, spread};
 use sm4::Sm4Cipher;
-use std::alloc::Global;
 use std::io;
 
 // GB/T 32907-2016, annex A, both examples: one block, and a block enciphered 1,000,000 times over.
@@ -31,29 +30,39 @@ fn cipher() -> Sm4Cipher {
 }
 
 // A body of the pattern's first n bytes.
-fn body(rt: &impl Print, alloc: Global, n: usize) -> io::Result<()> {
+fn body(rt: &impl Print, name: &[u8], n: u8) -> io::Result<()> {
     let mut iv = [0u8; 16];
     spread(13, 1, &mut iv);
-    let mut body = vec![in alloc; 0u8; n]?;
-    spread(7, 3, &mut body);
-    let name = format!(in alloc; "body-{n}")?;
-    both_cbc(rt, alloc, &name, cipher(), iv, &body)
+    let mut m = [0u8; 256];
+    spread(7, 3, &mut m);
+    both_cbc(rt, name, cipher(), iv, &m[..usize::from(n)])
 }
 
 // A line: all of an output of room bytes after block k of a record of size bytes is asked for. Where there is no such
 // block, nothing changes.
-fn block(rt: &impl Print, alloc: Global, size: usize, room: usize, k: usize) -> io::Result<()> {
-    let mut record = vec![in alloc; 0u8; size]?;
-    spread(7, 3, &mut record);
-    let mut out = vec![in alloc; 0xeeu8; room]?;
-    cbc::decipher_block_cbc(cipher(), &record, k, &mut out);
-    println!(rt; "block-{size}-{room}-{k} {}", Hex(&out))
+fn block(rt: &impl Print, size: u8, room: u8, k: usize) -> io::Result<()> {
+    let mut m = [0u8; 256];
+    spread(7, 3, &mut m);
+    let mut held = [0xeeu8; 256];
+    let record = &m[..usize::from(size)];
+    let out = &mut held[..usize::from(room)];
+    cbc::decipher_block_cbc(cipher(), record, k, out);
+    println!(rt; "block-{size}-{room}-{k} {}", Hex(out))
 }
 
 fn main(rt: HostRuntime) -> io::Result<()> {
     annex_a(&rt)?;
-    for n in [16, 32, 48, 64, 128, 53, 15] {
-        body(&rt, rt.alloc(), n)?;
+    let bodies: [(&[u8], u8); 7] = [
+        (b"body-16", 16),
+        (b"body-32", 32),
+        (b"body-48", 48),
+        (b"body-64", 64),
+        (b"body-128", 128),
+        (b"body-53", 53),
+        (b"body-15", 15),
+    ];
+    for (name, n) in bodies {
+        body(&rt, name, n)?;
     }
     for (size, room, k) in [
         (48, 32, 1),
@@ -69,7 +78,7 @@ fn main(rt: HostRuntime) -> io::Result<()> {
         (128, 64, 1152921504606846976),
         (128, 64, 1152921504606846975),
     ] {
-        block(&rt, rt.alloc(), size, room, k)?;
+        block(&rt, size, room, k)?;
     }
     Ok(())
 }

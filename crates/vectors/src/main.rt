@@ -44,23 +44,25 @@ fn million(rt: &impl Print) -> io::Result<()> {
     println!(rt; "million {}", Hex(&h.finalize().unwrap_or([0; 32])))
 }
 
-// An update and a digest of a state that no message leads to. Behind its number a refused update has the state as
-// given, and a refused digest zeros.
-fn update_and_finalize(rt: &impl Print, fill: usize, total: u64) -> io::Result<()> {
+// An update and a digest of a state that no message leads to, as the calls of C have them: a refused update leaves the
+// lent state as given, and a refused digest is zeros, whatever stood there.
+fn update_and_finish(rt: &impl Print, fill: usize, total: u64) -> io::Result<()> {
     let h = odd(fill, total);
     let mut part = [0u8; 10];
     spread(7, 195, &mut part);
-    let u = h.update(&part);
+    let mut after = h;
+    let taken = sm3_lent::update(&mut after, &part);
     println!(rt;
         "update-{fill}-{total} {} {}",
-        number_of(u),
-        State(u.unwrap_or(h))
+        number_of(taken),
+        State(after)
     )?;
-    let d = h.finalize();
+    let mut digest = [0xeeu8; 32];
+    let finished = sm3_lent::finish(&h, &mut digest);
     println!(rt;
         "finalize-{fill}-{total} {} {}",
-        number_of(d),
-        Hex(&d.unwrap_or([0; 32]))
+        number_of(finished),
+        Hex(&digest)
     )
 }
 
@@ -93,7 +95,7 @@ fn main(rt: HostRuntime) -> io::Result<()> {
         cut(&rt, sizes)?;
     }
     for (fill, total) in [(64, 64), (usize::MAX, 5), (5, u64::MAX - 2), (60, 7)] {
-        update_and_finalize(&rt, fill, total)?;
+        update_and_finish(&rt, fill, total)?;
     }
     Ok(())
 }
