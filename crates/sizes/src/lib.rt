@@ -46,7 +46,7 @@ pub fn allowed(n: usize) -> bool
 pub fn mac_steps(n: usize) -> usize
     ensures { result ≡ mac_steps n }
 {
-    n.saturating_sub(11).div_ceil(64)
+    words::div_ceil(n.saturating_sub(11), 64)
 }
 
 // All steps of opening a body of n bytes.

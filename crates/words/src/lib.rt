@@ -103,20 +103,23 @@ pub fn wrapping_add4(w: u32, x: u32, y: u32, z: u32) -> u32
     wrapping_add3(w, x, y).wrapping_add(z)
 }
 
-// a / b rounded up; 0 where b is 0. The crates above divide by written numbers, by the method: this is for other users.
+// a / b rounded up; 0 where b is 0.
 pub fn div_ceil(a: usize, b: usize) -> usize
     ensures { result ≡ (a + (b - 1)) / b }
 {
     if b == 0 { 0 } else { a.div_ceil(b) }
 }
 
-// src laid over out from index at on, as much of it as there is room for.
+// src laid over out from index at on, as much of it as there is room for. A store each: of `copy_from_slice` the compiler
+// makes a call of memmove where both are lent from C, a name that the library would need from outside.
 pub fn copy_at(out: &mut [u8], at: usize, src: &[u8])
     ensures { Copied out.old at src.now out.new }
 {
     if at < out.len() {
         let n = src.len().min(out.len() - at);
-        out[at..at + n].copy_from_slice(&src[..n]);
+        for j in 0..n {
+            out[at + j] = src[j];
+        }
     }
 }
 

@@ -1,12 +1,16 @@
--- `words::copy_at` meets its contract: the part copied into gave way to the front of src. Assumes nothing.
-use Rattle.std.proofs.Common.{arith}
-use Rattle.words.proofs.Copy.{put_part, no_room}
+-- `words::copy_at` meets its contract. The loop's invariant: the first j elements of src are laid over out; the measure is
+-- what is left of n. Assumes nothing.
+use Rattle.std.proofs.Common.{◌≡◌, ◌-◌, length, refl, arith, rules}
+use Rattle.words.proofs.Copy.{Laid, laid_none, laid_more, laid-length, laid_all, no_room}
 use Rattle.words.proofs.copy_at.Goals as goal
 
-pub returns-then-at-out : goal.returns-then-at-out
-returns-then-at-out c =
-    let a = c.args in
-    record { output = put_part a.at c.min-n.result _ a.out.now a.src.now _ c.min-n.ensures (omega arith) (omega arith) c.copy_from_slice.ensures.after }
+pub loop-j-preserved : goal.loop-j-preserved
+loop-j-preserved c = laid_more c.loop-j.invariant (omega arith) refl
+
+pub returns-after-loop-j : goal.returns-after-loop-j
+returns-after-loop-j c = record { output = laid_all c.loop-j.invariant (omega arith) }
 
 pub returns-else-at-out : goal.returns-else-at-out
-returns-else-at-out c = record { output = no_room _ _ _ (omega arith) }
+returns-else-at-out c =
+    let a = c.args in
+    record { output = no_room a.out.now a.at a.src.now (omega arith) }
