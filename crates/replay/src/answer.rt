@@ -1,36 +1,30 @@
 // What is printed for a line.
-use crate::Buffer;
 use answers::{DONE, Refusal};
 use programs::{Hex, State};
 use sm3::Sm3;
 use std::fmt;
 
-// The most bytes of an answer: more than a line names, and a record of them.
-pub const ROOM: usize = 2112;
-
 // Bytes, or why they are refused.
-pub type Outcome = Result<Buffer<ROOM>, Refusal>;
+pub type Outcome<'a> = Result<&'a [u8], Refusal>;
 
 #[derive(Clone, Copy)]
-pub enum Answer {
-    Bad,
-    Derived(Outcome),
-    Sealed(Outcome),
+pub enum Answer<'a> {
+    Derived(Outcome<'a>),
+    Sealed(Outcome<'a>),
     // the number that an opening answers, and the text
-    Opened(u8, Buffer<ROOM>),
+    Opened(u8, &'a [u8]),
     State(Sm3),
 }
 
-impl fmt::Display for Answer {
+impl<'a> fmt::Display for Answer<'a> {
     fn fmt<W: fmt::Write>(&self, f: &mut fmt::Formatter<W>) -> fmt::Result {
         match self {
-            Answer::Bad => write!(f, "bad"),
-            Answer::Derived(Ok(bytes)) => write!(f, "{}", Bytes(bytes.as_slice())),
+            Answer::Derived(Ok(bytes)) => write!(f, "{}", Bytes(bytes)),
             Answer::Derived(Err(why)) => write!(f, "{}", why.number()),
-            Answer::Sealed(Ok(bytes)) => write!(f, "{}", Record(DONE, bytes.as_slice())),
+            Answer::Sealed(Ok(bytes)) => write!(f, "{}", Record(DONE, bytes)),
             Answer::Sealed(Err(why)) => write!(f, "{}", Record(why.number(), &[])),
             // The Rust has no steps: where their number stands it prints a question mark.
-            Answer::Opened(answer, text) => write!(f, "{} ?", Record(*answer, text.as_slice())),
+            Answer::Opened(answer, text) => write!(f, "{} ?", Record(*answer, text)),
             Answer::State(h) => write!(f, "{}", State(*h)),
         }
     }
