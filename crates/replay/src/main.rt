@@ -85,8 +85,8 @@ fn role(line: &[u8], k: usize) -> TlcpRole {
 
 // ---- answers
 
-// A pipe holds what is written in pages, and begins a new one for a write that the last has no room for. So a write ends
-// where a page of the output does: a pipe then takes as many bytes as it has room for.
+// A pipe holds what is written in pages, and begins a new one for a write that the last has no room for. So a write
+// ends where a page of the output does: a pipe then takes as many bytes as it has room for.
 const PAGE: usize = 4096;
 
 fn put(rt: &impl Print, text: &[u8], used: &mut usize) -> io::Result<()> {
