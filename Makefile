@@ -63,6 +63,7 @@ wrapper: build/native/libborder.a
 PROGRAMS = vectors hmac_vectors sm4_vectors sm4_published key_schedule_vectors record_vectors step_vectors opening_vectors replay
 vectors:
 	@for program in $(PROGRAMS); do tools/program $$program && echo "== $$program" && tools/run_program $$program || exit 1; done
+	@tools/replay_test
 
 # The program of the scope's worked example, and its edges.
 lengths:

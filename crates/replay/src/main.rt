@@ -22,7 +22,7 @@ use std::io::{Read as _, Write as _};
 
 // ---- what a line asks for, done
 
-// Of the output's last page so many bytes are used, and are used then: so of each function here.
+// `used` is how many bytes of the output's last page are written, before a call and behind it: so of each function here.
 fn run(rt: &impl Print, line: &[u8], used: &mut usize) -> io::Result<()> {
     let Ok(command) = Command::try_from(line) else {
         return bad(rt, used);
